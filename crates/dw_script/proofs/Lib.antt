@@ -1,0 +1,5 @@
+pub mod Parts
+pub mod Causes
+pub mod Joined
+pub mod Quoted
+pub mod Utf8

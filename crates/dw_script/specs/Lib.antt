@@ -1,0 +1,4 @@
+pub mod Place
+pub mod Statements
+pub mod Status
+pub mod Texts
