@@ -1,0 +1,7 @@
+mod FormLemmas
+mod MeaningLemmas
+mod PlaceLemmas
+mod ReadLemmas
+mod ReadingLemmas
+mod SpellingLemmas
+mod Utf8Lemmas

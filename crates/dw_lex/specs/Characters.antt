@@ -1,0 +1,23 @@
+-- Which characters tokens are made of. All of them are ASCII; a byte is given by its number.
+use Rattle.std.specs.Prelude.{ℕ, Bool, ◌==◌, ◌||◌}
+use Rattle.std.specs.Char.{is_ascii_alphabetic, is_ascii_digit}
+
+-- a space, a tab, LF or CR: what may stand between tokens
+abbrev pub is_blank : ℕ → Bool
+is_blank b = (b == 32) || (b == 9) || (b == 10) || (b == 13)
+
+-- a letter or `_`
+abbrev pub begins_name : ℕ → Bool
+begins_name b = is_ascii_alphabetic b || (b == 95)
+
+-- a letter, `_`, a digit or `$`
+abbrev pub is_in_name : ℕ → Bool
+is_in_name b = begins_name b || is_ascii_digit b || (b == 36)
+
+-- the single quote
+abbrev pub quote : ℕ
+quote = 39
+
+-- the point of a number
+abbrev pub point : ℕ
+point = 46

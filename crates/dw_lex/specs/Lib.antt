@@ -1,0 +1,7 @@
+pub mod Characters
+pub mod Forms
+pub mod Signs
+pub mod Reading
+pub mod Meaning
+pub mod Places
+pub mod Spelling

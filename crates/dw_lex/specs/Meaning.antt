@@ -1,0 +1,47 @@
+-- What a token says.
+use Rattle.std.specs.Prelude.{◌≡◌, ℕ, ◌^◌, Bool, true, false, ◌==◌, ◌&&◌, nat_lt, if◌then◌else◌, Option, Some, None, List, [], ◌∷◌, map, length}
+use Rattle.std.specs.Char.{to_ascii_lowercase, is_ascii_digit}
+use Rattle.std.specs.List.{list_all}
+use Rattle.std.specs.Str.Parse.{digits_value}
+use Rattle.dw_lex.specs.Characters.{quote}
+use Rattle.dw_lex.specs.declared.token.Form.{Form}
+use Rattle.dw_lex.specs.declared.token.Form.TheVariants.{Name, Number, Words, Sign}
+use Rattle.dw_lex.specs.declared.token.Token.{Token}
+
+-- a name with its ASCII letters in lower case
+abbrev pub folded : List ℕ → List ℕ
+folded name = map to_ascii_lowercase name
+
+-- the token is this word, whatever the case of its letters
+abbrev pub IsWord : List ℕ → Token → Type 0
+IsWord word token = (token.form ≡ Name) × (folded token.text ≡ folded word)
+
+-- The text behind an opening quote: a quote is left out unless it comes after one that is left out, as the second of two
+-- does. `pending` says whether the byte before is a quote that is left out.
+abbrev pub said_behind : List ℕ → Bool → List ℕ
+said_behind [] pending = []
+said_behind (b ∷ bs) pending =
+    if b == quote
+    then (if pending then b ∷ said_behind bs false else said_behind bs true)
+    else b ∷ said_behind bs false
+
+-- what a text in single quotes says: its bytes without the quotes round it, and one quote for two
+abbrev pub said_by : List ℕ → List ℕ
+said_by [] = []
+said_by (b ∷ bs) = if b == quote then said_behind bs false else said_behind (b ∷ bs) false
+
+-- the number that digits write, where it is below 2 ^ 128, as each of at most 38 digits is
+abbrev pub number_of_digits : List ℕ → Option ℕ
+number_of_digits text =
+    if list_all is_ascii_digit text && nat_lt 0 (length text) && nat_lt (digits_value 10 text) (2 ^ 128)
+    then Some (digits_value 10 text) else None
+
+-- the number that a token of digits alone writes
+abbrev pub number_in : Form → List ℕ → Option ℕ
+number_in Number text = number_of_digits text
+number_in Name text = None
+number_in Words text = None
+number_in (Sign sign) text = None
+
+abbrev pub whole_number : Token → Option ℕ
+whole_number token = number_in token.form token.text

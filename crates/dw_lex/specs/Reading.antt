@@ -1,0 +1,52 @@
+-- The tokens of a statement.
+use Rattle.std.specs.Prelude.{◌≡◌, ℕ, suc, zero, ◌+◌, ◌-◌, Bool, true, false, Option, Some, None, Result, Ok, Err, List, [], ◌∷◌, length}
+use Rattle.dw_lex.specs.Characters.{is_blank}
+use Rattle.dw_lex.specs.Forms.{token_at}
+use Rattle.dw_lex.specs.declared.token.Form.{Form}
+use Rattle.dw_lex.specs.declared.token.Token.{Token}
+use Rattle.dw_lex.specs.declared.fault.LexFault.{LexFault}
+use Rattle.dw_lex.specs.declared.fault.LexFault.TheVariants.{Foreign, Memory}
+
+-- what is read: tokens, or the place where none begins
+abbrev pub Read : Type 0
+Read = Result (List Token) ℕ
+
+-- the token with these bytes at this place of the statement
+abbrev pub token_of : ℕ → Form × List ℕ → Token
+token_of place (form, bytes) = record { form = form; text = bytes; start = place; end = place + length bytes }
+
+-- the token comes before those that are read behind it
+abbrev pub with_first : Token → Read → Read
+with_first token (Ok tokens) = Ok (token ∷ tokens)
+with_first token (Err place) = Err place
+
+-- A blank stands for nothing, a token for itself, and anything else is foreign at its place. `rest inside` is what is read from
+-- the next byte on, of which so many still belong to the token.
+abbrev pub read_byte : Bool → Option (Form × List ℕ) → ℕ → (ℕ → Read) → Read
+read_byte true found place rest = rest 0
+read_byte false None place rest = Err place
+read_byte false (Some found) place rest = with_first (token_of place found) (rest (length found.1 - 1))
+
+-- what is read of bytes from a place of the statement on, of which the first `inside` belong to the token before
+unfoldable pub read_from : List ℕ → ℕ → ℕ → Read
+read_from [] place inside = Ok []
+read_from (b ∷ bs) place (suc inside) = read_from bs (place + 1) inside
+read_from (b ∷ bs) place zero =
+    read_byte (is_blank b) (token_at (b ∷ bs)) place (λ inside. read_from bs (place + 1) inside)
+
+-- the tokens of a statement, or the first place where none begins
+abbrev pub read_tokens : List ℕ → Read
+read_tokens bytes = read_from bytes 0 0
+
+-- The call returned what is read, unless memory ran out.
+abbrev pub Gives : Result (List Token) LexFault → Read → Type 0
+Gives (Ok tokens) read = read ≡ Ok tokens
+Gives (Err (Foreign place)) read = read ≡ Err place
+Gives (Err Memory) read = Unit {0}
+
+-- The call returned the token that was found at the place, or said that there is none, unless memory ran out.
+abbrev pub GivesToken : Result Token LexFault → ℕ → Option (Form × List ℕ) → Type 0
+GivesToken (Ok token) place None = ⊥
+GivesToken (Ok token) place (Some found) = token ≡ token_of place found
+GivesToken (Err (Foreign at)) place found = (found ≡ None) × (at ≡ place)
+GivesToken (Err Memory) place found = Unit {0}

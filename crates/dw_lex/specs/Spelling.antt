@@ -1,0 +1,60 @@
+-- How tokens are spelled: what the bytes of a token are, and what doesn't stand behind it, since it is the longest at its
+-- place. This says the lexical rules without reading; `token_at` reads by them.
+use Rattle.std.specs.Prelude.{◌≡◌, ℕ, ◌+◌, ◌<◌, ◌≤◌, Bool, true, false, ◌==◌, Some, None, List, [], ◌∷◌, ◌++◌, length}
+use Rattle.std.specs.List.{list_all}
+use Rattle.std.specs.Char.{is_ascii_digit}
+use Rattle.dw_lex.specs.Characters.{begins_name, is_in_name, quote, point}
+use Rattle.dw_lex.specs.Forms.{fraction_at}
+use Rattle.dw_lex.specs.Signs.{sign_of_one, sign_of_two}
+use Rattle.dw_lex.specs.declared.signs.Sign.{Sign as Mark}
+use Rattle.dw_lex.specs.declared.token.Form.{Form}
+use Rattle.dw_lex.specs.declared.token.Form.TheVariants.{Name, Number, Words, Sign}
+
+-- the bytes don't begin with one that passes the test
+abbrev pub EndsAt : (ℕ → Bool) → List ℕ → Type 0
+EndsAt test [] = Unit {0}
+EndsAt test (b ∷ bs) = test b ≡ false
+
+-- A name: a letter or `_`, then letters, `_`, digits or `$`; at most 127 bytes, and no such character behind it.
+abbrev pub IsName : List ℕ → List ℕ → Type 0
+IsName [] rest = ⊥
+IsName (b ∷ bs) rest =
+    (begins_name b ≡ true) × (list_all is_in_name bs ≡ true) × (length bs < 127) × EndsAt is_in_name rest
+
+-- at least one digit, and no other character
+abbrev pub IsDigits : List ℕ → Type 0
+IsDigits [] = ⊥
+IsDigits (b ∷ bs) = (is_ascii_digit b ≡ true) × (list_all is_ascii_digit bs ≡ true)
+
+-- A number: digits, or digits, a point and digits; at most 38 digits, no digit behind it, and behind digits alone no point
+-- with a digit.
+pub data IsNumber : List ℕ → List ℕ → Type 0 where
+  whole : (digits rest : List ℕ) → IsDigits digits → length digits ≤ 38
+      → EndsAt is_ascii_digit rest → fraction_at rest ≡ 0 → IsNumber digits rest
+  decimal : (digits fraction rest : List ℕ) → IsDigits digits → IsDigits fraction → length digits + length fraction ≤ 38
+      → EndsAt is_ascii_digit rest → IsNumber (digits ++ point ∷ fraction) rest
+
+-- what may stand between the quotes of a text: anything but a quote, and two quotes
+pub data IsInside : List ℕ → Type 0 where
+  nothing : IsInside []
+  other : (b : ℕ) (bs : List ℕ) → (b == quote) ≡ false → IsInside bs → IsInside (b ∷ bs)
+  quotes : (bs : List ℕ) → IsInside bs → IsInside (quote ∷ quote ∷ bs)
+
+-- A text: a quote, what may stand inside, and a quote, with no quote behind it.
+pub data IsWords : List ℕ → List ℕ → Type 0 where
+  text : (inside rest : List ℕ) → IsInside inside → EndsAt (λ b. b == quote) rest → IsWords (quote ∷ inside ++ quote ∷ []) rest
+
+-- A sign: of two characters, or of one that makes no sign of two with the character behind it.
+abbrev pub IsSign : Mark → List ℕ → List ℕ → Type 0
+IsSign sign [] rest = ⊥
+IsSign sign (b ∷ []) [] = sign_of_one b ≡ Some sign
+IsSign sign (b ∷ []) (c ∷ rest) = (sign_of_one b ≡ Some sign) × (sign_of_two b c ≡ None)
+IsSign sign (b ∷ c ∷ []) rest = sign_of_two b c ≡ Some sign
+IsSign sign (b ∷ c ∷ d ∷ bs) rest = ⊥
+
+-- the bytes are a token of this form where this rest is behind them
+abbrev pub IsToken : Form → List ℕ → List ℕ → Type 0
+IsToken Name word rest = IsName word rest
+IsToken Number word rest = IsNumber word rest
+IsToken Words word rest = IsWords word rest
+IsToken (Sign sign) word rest = IsSign sign word rest

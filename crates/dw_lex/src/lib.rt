@@ -1,0 +1,22 @@
+//! The tokens of a statement: names, numbers, texts in quotes and signs, each with its place.
+//!
+//! The rules are this project's profile of the lexical structure in the Amazon Redshift guide and the SQL standard. Comments
+//! and quoted names are not read yet.
+#![tactic(auto)]
+
+mod fault;
+mod forms;
+mod laws;
+mod meaning;
+mod reading;
+mod signs;
+mod token;
+
+pub use fault::LexFault;
+pub use laws::{read_tokens_are_spelled, spelled_tokens_are_read};
+pub use reading::tokens;
+pub use signs::Sign;
+pub use token::{Form, Token};
+
+#[cfg(test)]
+mod tests;

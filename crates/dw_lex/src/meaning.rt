@@ -1,0 +1,49 @@
+ghost use Rattle.std.specs.Prelude.{◌≡◌, false, IfOk};
+ghost use Rattle.std.specs.Char.{is_ascii_digit};
+ghost use Rattle.std.specs.List.{list_all};
+ghost use Rattle.dw_lex.specs.Meaning.{said_by, said_behind, number_of_digits};
+
+use std::alloc::{AllocError, Global};
+
+// The bytes of a text behind its opening quote.
+fn said_behind(alloc: Global, bytes: &[u8]) -> Result<Vec<u8>, AllocError>
+    ensures { IfOk result (λ said. said.items ≡ said_behind bytes.now false) }
+{
+    let mut said = Vec::new(alloc);
+    let mut pending = false;
+    for byte in bytes {
+        let is_left_out = *byte == b'\'' && !pending;
+        if !is_left_out {
+            said.push(*byte)?;
+        }
+        pending = is_left_out;
+    }
+    Ok(said)
+}
+
+/// The bytes of a text without the quotes round it, and with one quote for each two.
+pub fn said_by(alloc: Global, bytes: &[u8]) -> Result<Vec<u8>, AllocError>
+    ensures { IfOk result (λ said. said.items ≡ said_by bytes.now) }
+{
+    match bytes {
+        [b'\'', inside @ ..] => said_behind(alloc, inside),
+        _ => said_behind(alloc, bytes),
+    }
+}
+
+fn is_all_digits(text: &[u8]) -> bool
+    ensures { result ≡ list_all is_ascii_digit text.now }
+{
+    text.iter().all(|byte| byte.is_ascii_digit())
+}
+
+/// The number that digits write, where it is below 2^128.
+pub fn number_of_digits(text: &str) -> Option<u128>
+    ensures { result ≡ number_of_digits text.now }
+{
+    if is_all_digits(text.as_bytes()) {
+        text.parse::<u128>().ok()
+    } else {
+        None
+    }
+}

@@ -1,0 +1,57 @@
+ghost use Rattle.std.specs.Prelude.{◌≡◌, ◌<◌, ◌≤◌, length, drop, IfOk};
+ghost use Rattle.dw_lex.specs.Forms.{token_at};
+ghost use Rattle.dw_lex.specs.Places.{IsSlice, AreInOrder};
+ghost use Rattle.dw_lex.specs.Reading.{read_tokens, Gives, GivesToken};
+
+use crate::fault::LexFault;
+use crate::forms::{is_blank, token_at};
+use crate::token::Token;
+use dw_value::{List, Text};
+use std::alloc::Global;
+
+// The token at this place of the text.
+fn token(alloc: Global, text: &[u8], start: usize) -> Result<Token, LexFault>
+    requires { start ≤ length text.now }
+    ensures given { GivesToken result start (token_at (drop start text.now)) }
+    ensures starts { IfOk result (λ token. token.start ≡ start) }
+    ensures slice { IfOk result (λ token. IsSlice text.now token) }
+{
+    let Some((form, found)) = token_at(&text[start..]) else {
+        return Err(LexFault::Foreign {
+            place: start as u64,
+        });
+    };
+    let end = start + found.len();
+    let text = Text::from_str(alloc, found)?;
+    Ok(Token {
+        form,
+        text,
+        start: start as u64,
+        end: end as u64,
+    })
+}
+
+/// The tokens of a text, in order. A token is the longest that can be read at its place, and spaces, tabs, line feeds
+/// and carriage returns may stand around it.
+///
+/// `Foreign` has the first place where no token begins: another character stands there, or a name of more than 127
+/// bytes, a number of more than 38 digits, or a text that isn't closed or isn't UTF-8. Each token's text is a copy of its
+/// own.
+pub fn tokens(alloc: Global, text: &[u8]) -> Result<List<Token>, LexFault>
+    ensures read { Gives result (read_tokens text.now) }
+    // The tokens are slices of the text, in order, and nothing but blanks is left out.
+    ensures places { IfOk result (λ tokens. AreInOrder text.now 0 tokens (length text.now)) }
+{
+    let mut tokens = List::new(alloc);
+    let mut at = 0;
+    while at < text.len() {
+        if is_blank(text[at]) {
+            at += 1;
+        } else {
+            let token = token(alloc, text, at)?;
+            at = token.end as usize;
+            tokens.push(token)?;
+        }
+    }
+    Ok(tokens)
+}

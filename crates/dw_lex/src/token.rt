@@ -1,0 +1,84 @@
+ghost use Rattle.std.specs.Prelude.{◌≡◌, ◌↔◌, IsTrue, IfOk};
+
+use crate::meaning::{number_of_digits, said_by};
+use crate::signs::Sign;
+use dw_value::Text;
+use std::alloc::{AllocError, Global};
+
+/// What a token is.
+#[derive(Clone, Copy, Debug, PartialEq, Eq)]
+pub enum Form {
+    /// An ASCII letter or `_`, then letters, digits, `_` or `$`: at most 127 bytes. A word of SQL is a name too.
+    Name,
+    /// Digits, or digits with one point and at least one digit after it: at most 38 digits.
+    Number,
+    /// A text in single quotes, in which two quotes stand for one.
+    Words,
+    /// A sign.
+    Sign(Sign),
+}
+
+/// A token of a text.
+#[derive(Debug, Drop)]
+pub struct Token {
+    pub form: Form,
+    /// The token's bytes as they stand in the text it was read from, quotes and upper case too.
+    pub text: Text,
+    /// Where it begins, in bytes from the text's start.
+    pub start: u64,
+    /// Where it ends: the place of the first byte behind it.
+    pub end: u64,
+}
+
+impl Token {
+    ghost use Rattle.dw_lex.specs.declared.token.Form.TheVariants as forms;
+    ghost use Rattle.dw_lex.specs.Meaning.{IsWord, folded, said_by, whole_number};
+
+    /// Whether the token is this word, in whatever case its ASCII letters are. Only names are words; a text in quotes
+    /// is none.
+    pub fn is_word(&self, word: &str) -> bool
+        ensures { IsTrue result ↔ IsWord word.now self.now }
+    {
+        matches!(self.form, Form::Name) && self.text.as_str().eq_ignore_ascii_case(word)
+    }
+
+    /// Whether the token is this sign.
+    pub fn is_sign(&self, sign: Sign) -> bool
+        ensures { IsTrue result ↔ (self.now.form ≡ forms.Sign sign) }
+    {
+        match self.form {
+            Form::Sign(own) => own == sign,
+            _ => false,
+        }
+    }
+
+    /// The token's text with its ASCII letters in lower case: the name that a name in any case stands for.
+    pub fn folded(&self, alloc: Global) -> Result<Text, AllocError>
+        ensures { IfOk result (λ name. name ≡ folded self.now.text) }
+    {
+        let name = self.text.as_str().to_ascii_lowercase(alloc)?;
+        Ok(Text::from_string(name))
+    }
+
+    /// The number that a token of digits alone writes. `None` comes for any other token, a number with a point among
+    /// them, and for a number of 2^128 or more, which no token of at most 38 digits is.
+    pub fn whole_number(&self) -> Option<u128>
+        ensures { result ≡ whole_number self.now }
+    {
+        match self.form {
+            Form::Number => number_of_digits(self.text.as_str()),
+            _ => None,
+        }
+    }
+
+    /// What a text in single quotes says: the bytes between its quotes, with one quote for each two.
+    pub fn words(&self, alloc: Global) -> Result<Text, AllocError>
+        ensures { IfOk result (λ words. words ≡ said_by self.now.text) }
+    {
+        let bytes = said_by(alloc, self.text.as_bytes())?;
+        match String::from_utf8(bytes) {
+            Ok(words) => Ok(Text::from_string(words)),
+            Err(_) => unreachable!(),
+        }
+    }
+}
