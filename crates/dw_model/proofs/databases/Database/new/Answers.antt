@@ -1,0 +1,6 @@
+-- A database of no tables.
+use Rattle.dw_model.proofs.EntryLemmas.{from_no_entries}
+use Rattle.dw_model.proofs.databases.Database.new.Goals as goal
+
+pub returns : goal.returns
+returns c = rw c.new.ensures.items from_no_entries

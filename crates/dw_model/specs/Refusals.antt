@@ -1,0 +1,13 @@
+-- The refusals of statements, by number and text. The numbers and texts are this project's own.
+use Rattle.std.specs.Prelude.{ℕ}
+use Rattle.dw_model.specs.declared.refusals.Refusal.{Refusal}
+use Rattle.dw_model.specs.declared.refusals.Refusal.TheVariants.{Syntax, Unknown, Exists, Clash, Range, Memory}
+
+-- the number that a report prints before a refusal's text
+abbrev pub number_of : Refusal → ℕ
+number_of (Syntax place) = 1
+number_of (Unknown name) = 2
+number_of (Exists name) = 3
+number_of Clash = 4
+number_of Range = 5
+number_of Memory = 16
