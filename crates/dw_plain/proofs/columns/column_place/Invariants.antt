@@ -1,0 +1,7 @@
+-- No column so far has the name.
+use Rattle.std.proofs.Common.{◌≡◌, ◌+◌, drop, option_map}
+use Rattle.dw_plain.specs.Places.{place_of}
+use Rattle.dw_plain.proofs.columns.column_place.Given as goal
+
+abbrev pub invariant-loop-place : goal.invariant-loop-place
+invariant-loop-place l = place_of l.columns l.name ≡ option_map (λ k. l.place + k) (place_of (drop l.place l.columns) l.name)
