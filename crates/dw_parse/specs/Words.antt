@@ -1,0 +1,123 @@
+-- What the token at a place of a statement is, as the grammar takes it. Places are counted in tokens, from 0. Behind the
+-- last token nothing is found. The reserved words and the kinds' limits are this project's profile of the Amazon Redshift guide.
+use Rattle.std.specs.Prelude.{ℕ, ◌^◌, ℤ, pos, neg_ℤ, Bool, true, false, ◌&&◌, not, nat_eq, nat_le, nat_lt, if◌then◌else◌, Option, Some, None, List, [], ◌∷◌, slice_get, codes}
+use Rattle.std.specs.Option.{option_map, option_and_then}
+use Rattle.std.specs.List.{list_any}
+use Rattle.std.specs.Cmp.Lexicographic.{pointwise}
+use Rattle.dw_lex.specs.Meaning.{folded, said_by, whole_number}
+use Rattle.dw_lex.specs.declared.signs.Sign.{Sign as Mark}
+use Rattle.dw_lex.specs.declared.signs.Sign.TheVariants as mark
+use Rattle.dw_lex.specs.declared.token.Form.{Form}
+use Rattle.dw_lex.specs.declared.token.Form.TheVariants as form
+use Rattle.dw_lex.specs.declared.token.Token.{Token}
+use Rattle.dw_value.specs.declared.kinds.Comparison.{Comparison}
+use Rattle.dw_value.specs.declared.kinds.Comparison.TheVariants as test
+use Rattle.dw_value.specs.declared.values.Value.{Value}
+use Rattle.dw_value.specs.declared.values.Value.TheVariants as value
+
+abbrev pub is_name : Form → Bool
+is_name form.Name = true
+is_name form.Number = false
+is_name form.Words = false
+is_name (form.Sign sign) = false
+
+abbrev pub sign_of : Form → Option Mark
+sign_of form.Name = None
+sign_of form.Number = None
+sign_of form.Words = None
+sign_of (form.Sign sign) = Some sign
+
+-- the token is this word, whatever the case of its letters
+abbrev pub says : List ℕ → Token → Bool
+says word token = is_name token.form && pointwise nat_eq (folded token.text) (folded word)
+
+-- the words that are no names
+abbrev pub reserved_words : List (List ℕ)
+reserved_words =
+    codes "all" ∷ codes "and" ∷ codes "as" ∷ codes "asc" ∷ codes "between" ∷ codes "by" ∷ codes "case" ∷ codes "create"
+    ∷ codes "cross" ∷ codes "default" ∷ codes "delete" ∷ codes "desc" ∷ codes "distinct" ∷ codes "else" ∷ codes "end"
+    ∷ codes "except" ∷ codes "false" ∷ codes "foreign" ∷ codes "from" ∷ codes "full" ∷ codes "group" ∷ codes "having"
+    ∷ codes "in" ∷ codes "inner" ∷ codes "insert" ∷ codes "intersect" ∷ codes "into" ∷ codes "is" ∷ codes "join"
+    ∷ codes "left" ∷ codes "like" ∷ codes "limit" ∷ codes "minus" ∷ codes "natural" ∷ codes "not" ∷ codes "null"
+    ∷ codes "offset" ∷ codes "on" ∷ codes "or" ∷ codes "order" ∷ codes "over" ∷ codes "primary" ∷ codes "references"
+    ∷ codes "right" ∷ codes "select" ∷ codes "set" ∷ codes "table" ∷ codes "then" ∷ codes "true" ∷ codes "union"
+    ∷ codes "unique" ∷ codes "update" ∷ codes "using" ∷ codes "values" ∷ codes "when" ∷ codes "where" ∷ codes "with" ∷ []
+
+unfoldable pub is_reserved : List ℕ → Bool
+is_reserved name = list_any (λ word. pointwise nat_eq word name) reserved_words
+
+-- a name in lower case; no reserved word is a name
+abbrev pub name_of : Token → Option (List ℕ)
+name_of token =
+    if is_name token.form then (if is_reserved (folded token.text) then None else Some (folded token.text)) else None
+
+-- a number of at most 38 digits
+abbrev pub below_limit : Option ℕ → Option ℕ
+below_limit None = None
+below_limit (Some n) = if nat_lt n (10 ^ 38) then Some n else None
+
+abbrev pub number_of : Token → Option ℕ
+number_of token = below_limit (whole_number token)
+
+-- how many bytes a VARCHAR may hold: 1 to 65,535
+abbrev pub in_length : ℕ → Option ℕ
+in_length n = if nat_le 1 n && nat_le n 65535 then Some n else None
+
+-- a literal of one token: digits, a text, or the word null
+abbrev pub literal_in : Form → Token → Option Value
+literal_in form.Name token = if says (codes "null") token then Some value.Null else None
+literal_in form.Number token = option_map (λ n. value.Number (pos n)) (number_of token)
+literal_in form.Words token = Some (value.Words (said_by token.text))
+literal_in (form.Sign sign) token = None
+
+abbrev pub literal_of : Token → Option Value
+literal_of token = literal_in token.form token
+
+-- the comparison that a sign says
+abbrev pub comparison_of : Option Mark → Option Comparison
+comparison_of (Some mark.Equal) = Some test.Equal
+comparison_of (Some mark.Unequal) = Some test.Unequal
+comparison_of (Some mark.Less) = Some test.Less
+comparison_of (Some mark.AtMost) = Some test.AtMost
+comparison_of (Some mark.Greater) = Some test.Greater
+comparison_of (Some mark.AtLeast) = Some test.AtLeast
+comparison_of _ = None
+
+abbrev pub is_open : Option Mark → Bool
+is_open (Some mark.Open) = true
+is_open _ = false
+
+abbrev pub is_close : Option Mark → Bool
+is_close (Some mark.Close) = true
+is_close _ = false
+
+abbrev pub is_comma : Option Mark → Bool
+is_comma (Some mark.Comma) = true
+is_comma _ = false
+
+abbrev pub is_dot : Option Mark → Bool
+is_dot (Some mark.Dot) = true
+is_dot _ = false
+
+abbrev pub is_minus : Option Mark → Bool
+is_minus (Some mark.Minus) = true
+is_minus _ = false
+
+abbrev pub says_in : List ℕ → Option Token → Bool
+says_in word None = false
+says_in word (Some token) = says word token
+
+abbrev pub word_at : List ℕ → List Token → ℕ → Bool
+word_at word tokens i = says_in word (slice_get tokens i)
+
+abbrev pub sign_at : List Token → ℕ → Option Mark
+sign_at tokens i = option_and_then (λ token. sign_of token.form) (slice_get tokens i)
+
+abbrev pub name_at : List Token → ℕ → Option (List ℕ)
+name_at tokens i = option_and_then name_of (slice_get tokens i)
+
+abbrev pub number_at : List Token → ℕ → Option ℕ
+number_at tokens i = option_and_then number_of (slice_get tokens i)
+
+abbrev pub literal_at : List Token → ℕ → Option Value
+literal_at tokens i = option_and_then literal_of (slice_get tokens i)

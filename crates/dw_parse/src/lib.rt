@@ -1,0 +1,22 @@
+//! The statement that the tokens of a text stand for.
+//!
+//! The grammar is this project's profile of the SQL of the Amazon Redshift guide: CREATE TABLE with INTEGER and VARCHAR
+//! columns, INSERT of tuples of literals, and SELECT of columns of one table with at most one comparison.
+#![tactic(auto)]
+
+mod create;
+mod fault;
+mod insert;
+mod laws;
+mod parser;
+mod select;
+mod words;
+
+pub use fault::ParseFault;
+pub use laws::{
+    at_most_one_statement_is_derived, derived_statements_are_read, read_statements_are_derived,
+};
+pub use parser::parse;
+
+#[cfg(test)]
+mod tests;
