@@ -1,0 +1,3 @@
+pub mod StepLemmas
+pub mod Sequential
+pub mod CommitAlone

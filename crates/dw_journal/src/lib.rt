@@ -1,0 +1,135 @@
+//! The journal of a run, event by event, and what makes it right.
+//!
+//! `specs/` holds the definitions: which event follows from the scripts, which is legal, which journals arise from a
+//! schedule, and the serial order of what was committed. They speak of any number of sessions.
+#![tactic(auto)]
+
+mod laws;
+
+ghost use Rattle.std.specs.Prelude.{◌≡◌};
+
+use dw_model::{Answer, Object, Refusal, Statement};
+use dw_value::List;
+pub use laws::driven_is_legal;
+
+/// How large a warehouse is, and how many sessions it serves.
+#[derive(Clone, Copy, Debug, PartialEq, Eq)]
+pub struct Shape {
+    /// Nodes, 1 to 16.
+    pub nodes: u32,
+    /// Slices of each node, 1 to 16.
+    pub slices: u32,
+    /// Scaling clusters, 0 to 9.
+    pub clusters: u32,
+    /// Statements that a cluster works on at once, 1 to 50.
+    pub slots: u32,
+    /// Sessions, 1 to 64.
+    pub sessions: u32,
+}
+
+impl Shape {
+    /// The shape of a warehouse where nothing else is asked for: 2 nodes of 2 slices, 1 cluster, 5 slots.
+    pub fn standard(sessions: u32) -> Shape
+        ensures { result ≡ record { nodes = 2; slices = 2; clusters = 1; slots = 5; sessions = sessions } }
+    {
+        Shape {
+            nodes: 2,
+            slices: 2,
+            clusters: 1,
+            slots: 5,
+            sessions,
+        }
+    }
+}
+
+/// A statement of a script: what the grammar makes of its text.
+#[derive(Debug, Drop)]
+pub enum Given {
+    /// The grammar derives this statement.
+    Read(Statement),
+    /// The grammar refuses it, with this refusal.
+    Refused(Refusal),
+}
+
+/// The statements of each session's script, sessions in ascending number.
+pub type Scripts = List<List<Given>>;
+
+/// Where a statement is worked on.
+#[derive(Clone, Copy, Debug)]
+pub enum Route {
+    /// On the warehouse's own nodes.
+    Main,
+}
+
+/// One event of a journal. Sessions and statements are numbered from 1. Stamps are the places of committed transactions,
+/// from 1.
+#[derive(Debug, Drop)]
+pub enum Event {
+    /// The statement is opened: its names are found in what the session sees, which is what was committed up to
+    /// `snapshot`, with the changes of its own transaction.
+    Opened {
+        session: u32,
+        statement: u32,
+        snapshot: u64,
+        route: Route,
+    },
+    /// The open statement is answered.
+    Answer {
+        session: u32,
+        statement: u32,
+        answer: Answer,
+    },
+    /// The session's transaction is committed, with its stamp and its watermarks.
+    Commit {
+        session: u32,
+        statement: u32,
+        stamp: u64,
+        low: u64,
+        high: u64,
+    },
+    /// The statement is refused.
+    Refuse {
+        session: u32,
+        statement: u32,
+        refusal: Refusal,
+    },
+    /// The session's script is at its end.
+    End {
+        session: u32,
+    },
+}
+
+impl Event {
+    ghost use Rattle.dw_journal.specs.History.{session_of};
+
+    /// The session that the event is of.
+    pub fn session(&self) -> u32
+        ensures { result ≡ session_of self.now }
+    {
+        match self {
+            Event::Opened { session, .. }
+            | Event::Answer { session, .. }
+            | Event::Commit { session, .. }
+            | Event::Refuse { session, .. }
+            | Event::End { session } => *session,
+        }
+    }
+}
+
+/// A committed transaction as the watermarks of later ones see it.
+#[derive(Debug, Drop)]
+pub struct Certified {
+    /// Its low watermark.
+    pub low: u64,
+    /// The objects that it read.
+    pub reads: List<Object>,
+    /// The objects that it wrote.
+    pub writes: List<Object>,
+}
+
+/// What happened in a warehouse of this shape, the oldest event first.
+#[derive(Debug, Drop)]
+pub struct Journal {
+    pub shape: Shape,
+    pub events: List<Event>,
+}
