@@ -1,0 +1,91 @@
+ghost use Rattle.std.specs.Prelude.{◌≡◌, ◌+◌, ◌^◌, ◌<◌, [], ◌∷◌, length, map, IfOk};
+ghost use Rattle.dw_journal.specs.History.{history};
+ghost use Rattle.dw_journal.specs.Contents.{contents};
+ghost use Rattle.dw_journal.specs.Serial.{serial_order};
+ghost use Rattle.dw_core.specs.Run.{IsRun};
+
+use crate::session::{Session, take};
+use dw_journal::{Event, Given, Journal, Shape};
+use dw_model::Database;
+use dw_ssn::Certifier;
+use dw_value::List;
+use std::alloc::{AllocError, Global};
+
+/// What a run leaves: its journal, the committed tables, and the stamps of the committed transactions in serial order.
+#[derive(Drop)]
+pub struct Ran {
+    pub journal: Journal,
+    pub database: Database,
+    pub serial: List<u64>,
+}
+
+/// Drives session 1 through its script to the end, in a warehouse of the standard shape.
+///
+/// Where memory runs out while a statement is worked on, that statement is refused; where it runs out for the journal
+/// itself, there is no run.
+pub fn run_script(alloc: Global, script: &[Given]) -> Result<Ran, AllocError>
+    requires { length script.now < 2 ^ 32 }
+    ensures run { IfOk result (λ ran. IsRun (script.now ∷ []) [] ran.journal) }
+    ensures database { IfOk result (λ ran. ran.database ≡ contents (script.now ∷ []) (history ran.journal)) }
+    ensures serial { IfOk result (λ ran. ran.serial ≡ map (λ transaction. transaction.stamp) (serial_order ran.journal)) }
+{
+    let mut session = Session {
+        events: List::new(alloc),
+        certifier: Certifier::new(alloc),
+        database: Database::new(alloc),
+        serial: List::new(alloc),
+    };
+    for place in 0..script.len() {
+        take(alloc, &mut session, script, place)?;
+    }
+    let Session {
+        mut events,
+        certifier: _,
+        database,
+        serial,
+    } = session;
+    events.push(Event::End { session: 1 })?;
+    let journal = Journal {
+        shape: Shape::standard(1),
+        events,
+    };
+    Ok(Ran {
+        journal,
+        database,
+        serial,
+    })
+}
+
+#[cfg(test)]
+mod tests {
+    use super::*;
+    use dw_model::{ColumnSpec, Refusal, Statement, TableSpec};
+    use dw_value::{Kind, Text};
+    use std::test::Fail;
+
+    /// A statement that isn't in the grammar, CREATE TABLE t (x INTEGER), and the same again: a refusal, then an opened,
+    /// an answered and a committed statement, then a refusal, and the end.
+    #[test]
+    fn runs_a_script(rt: HostRuntime) -> Result<(), Fail> {
+        let alloc = rt.alloc();
+        let mut script = List::new(alloc);
+        script.push(Given::Refused(Refusal::Syntax { place: 0 }))?;
+        for _ in 0..2 {
+            let mut columns = List::new(alloc);
+            let name = Text::from_str(alloc, "x")?;
+            columns.push(ColumnSpec {
+                name,
+                kind: Kind::Int,
+            })?;
+            let name = Text::from_str(alloc, "t")?;
+            let spec = TableSpec { name, columns };
+            script.push(Given::Read(Statement::Create { spec }))?;
+        }
+        assert_eq!(rt; script.len(), 3);
+        let ran = run_script(alloc, script.as_slice())?;
+        assert_eq!(rt; ran.journal.events.len(), 6);
+        assert_eq!(rt; ran.database.len(), 1);
+        assert_eq!(rt; ran.serial.as_slice(), [1].as_slice());
+        Ok(())
+    }
+}
