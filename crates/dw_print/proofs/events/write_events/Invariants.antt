@@ -1,0 +1,8 @@
+-- What is written so far, with what the events that are left give, is what all events give.
+use Rattle.std.proofs.Common.{◌≡◌, ◌++◌, ◌+◌, drop}
+use Rattle.dw_print.specs.Report.{journal_lines}
+use Rattle.dw_print.proofs.events.write_events.Given as goal
+
+abbrev pub invariant-loop-index : goal.invariant-loop-index
+invariant-loop-index l =
+    l.out.items ++ journal_lines (l.index + 1) (drop l.index l.events) ≡ l.initial.out.items ++ journal_lines 1 l.events

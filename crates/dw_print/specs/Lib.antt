@@ -1,0 +1,5 @@
+pub mod Fields
+pub mod Rows
+pub mod Answers
+pub mod Tables
+pub mod Report

@@ -1,0 +1,83 @@
+//! The parts of a line: texts, numbers, names, values and refusals, each written behind what is there already.
+ghost use Rattle.std.specs.Prelude.{◌≡◌, ◌++◌, OnOk};
+ghost use Rattle.dw_print.specs.Fields.{escape, field, refusal_text, shown_field, value_field};
+
+use dw_model::Refusal;
+use dw_value::{Field, Value, show};
+use itoa::{Buffer, Integer};
+use std::alloc::AllocError;
+
+/// Writes `text` as it is.
+pub fn write_text(out: &mut Vec<u8>, text: &str) -> Result<(), AllocError>
+    ensures { OnOk result (out.new.items ≡ out.old.items ++ text.now) }
+{
+    out.extend_from_slice(text.as_bytes())
+}
+
+/// Writes `label` as it is, and then `number` in plain decimal.
+pub fn write_number<I: Integer>(out: &mut Vec<u8>, label: &str, number: I) -> Result<(), AllocError>
+    ensures { OnOk result (out.new.items ≡ out.old.items ++ label.now ++ I.text number) }
+{
+    let mut buffer = Buffer::new();
+    write_text(out, label)?;
+    write_text(out, buffer.format(number))
+}
+
+/// Writes one byte of a field.
+fn write_escaped(out: &mut Vec<u8>, byte: u8) -> Result<(), AllocError>
+    ensures { OnOk result (out.new.items ≡ out.old.items ++ escape byte) }
+{
+    match byte {
+        b'\\' => out.extend_from_slice(b"\\\\"),
+        b'|' => out.extend_from_slice(b"\\|"),
+        b'\n' => out.extend_from_slice(b"\\n"),
+        b'\r' => out.extend_from_slice(b"\\r"),
+        _ => Ok(out.push(byte)?),
+    }
+}
+
+/// Writes `label` as it is, and then a name as a field.
+pub fn write_field(out: &mut Vec<u8>, label: &str, name: &[u8]) -> Result<(), AllocError>
+    ensures { OnOk result (out.new.items ≡ out.old.items ++ label.now ++ field name.now) }
+{
+    write_text(out, label)?;
+    for byte in name {
+        write_escaped(out, *byte)?;
+    }
+    Ok(())
+}
+
+/// Writes `label` as it is, and then a field of an answer.
+pub fn write_shown(out: &mut Vec<u8>, label: &str, shown: &Field) -> Result<(), AllocError>
+    ensures { OnOk result (out.new.items ≡ out.old.items ++ label.now ++ shown_field shown.now) }
+{
+    match shown {
+        Field::Null => {
+            write_text(out, label)?;
+            write_text(out, "\\N")
+        }
+        Field::Shown(text) => write_field(out, label, text.as_bytes()),
+    }
+}
+
+/// Writes `label` as it is, and then a value of a row.
+pub fn write_value(out: &mut Vec<u8>, label: &str, value: &Value) -> Result<(), AllocError>
+    ensures { OnOk result (out.new.items ≡ out.old.items ++ label.now ++ value_field value.now) }
+{
+    let shown = show(*out.allocator(), value)?;
+    write_shown(out, label, &shown)
+}
+
+/// Writes what a report says of a refusal, after its number.
+pub fn write_refusal(out: &mut Vec<u8>, refusal: &Refusal) -> Result<(), AllocError>
+    ensures { OnOk result (out.new.items ≡ out.old.items ++ refusal_text refusal.now) }
+{
+    match refusal {
+        Refusal::Syntax { place } => write_number(out, "syntax ", *place),
+        Refusal::Unknown { name } => write_field(out, "unknown ", name.as_bytes()),
+        Refusal::Exists { name } => write_field(out, "exists ", name.as_bytes()),
+        Refusal::Clash => write_text(out, "clash"),
+        Refusal::Range => write_text(out, "range"),
+        Refusal::Memory => write_text(out, "memory"),
+    }
+}
