@@ -1,0 +1,13 @@
+pub mod Fronts
+pub mod Items
+pub mod Naturals
+pub mod Signed
+pub mod Gaps
+pub mod NumberFronts
+pub mod Decoding
+pub mod RawItems
+pub mod Encoding
+pub mod Forms
+pub mod FormFronts
+pub mod MostlyItems
+pub mod TextItems
