@@ -19,7 +19,7 @@ use Rattle.dw_model.specs.declared.refusals.Refusal.{Refusal}
 use Rattle.dw_model.specs.declared.refusals.Refusal.TheVariants.{Clash}
 use Rattle.dw_model.specs.declared.statements.Query.{Query}
 use Rattle.dw_model.specs.declared.statements.Statement.{Statement}
-use Rattle.dw_model.specs.declared.statements.Statement.TheVariants.{Create, Insert, Select}
+use Rattle.dw_model.specs.declared.statements.Statement.TheVariants.{Begin, Commit, Rollback, Vacuum, Create, Insert, Select}
 use Rattle.dw_model.specs.declared.statements.TableSpec.{TableSpec}
 use Rattle.dw_model.specs.declared.tables.Object.{Object}
 use Rattle.dw_model.specs.declared.tables.Object.TheVariants.{Def, Rows}
@@ -150,6 +150,10 @@ insert_def_at name rows a q false other = ap def_in (insert_other name rows a (m
 
 -- ---- the laws
 pub reply_framed : (statement : Statement) (a b : Tables) → SameAtAll a b (reads_of statement) → reply_of statement a ≡ reply_of statement b
+reply_framed Begin a b same = refl
+reply_framed Commit a b same = refl
+reply_framed Rollback a b same = refl
+reply_framed (Vacuum table) a b same = refl
 reply_framed (Create spec) a b same =
     let e = same_table (map.get a spec.name) (map.get b spec.name) same.0 same.1.0 in
     ap (λ o. reply_in (unless_refused (create_refusal spec o) (carried_out (Create spec) a))) e
@@ -172,6 +176,10 @@ create_written_at spec a b same q is =
     subst P (sym is) (create_written spec a b same)
 
 pub written_framed : (statement : Statement) (a b : Tables) (object : Object) → SameAtAll a b (reads_of statement) → is_among object (reads_of statement) ≡ true → is_among object (writes_of statement) ≡ true → SameAt (next_of statement a) (next_of statement b) object
+written_framed Begin a b object same read written = absurd (false≢true written)
+written_framed Commit a b object same read written = absurd (false≢true written)
+written_framed Rollback a b object same read written = absurd (false≢true written)
+written_framed (Vacuum table) a b object same read written = absurd (false≢true written)
 written_framed (Create spec) a b (Def q) same read written = ap def_in (create_written_at spec a b same q (names_same q spec.name (sym (or_false _) ∙ written)))
 written_framed (Create spec) a b (Rows q) same read written = ap rows_in (create_written_at spec a b same q (names_same q spec.name (sym (or_false _) ∙ written)))
 written_framed (Insert name rows) a b (Def q) same read written = absurd (false≢true written)
@@ -179,24 +187,33 @@ written_framed (Insert name rows) a b (Rows q) same read written = absurd (false
 written_framed (Select query) a b object same read written = absurd (false≢true written)
 
 pub rows_added_framed : (statement : Statement) (a : Tables) (name : List ℕ) → is_among (Rows name) (writes_of statement) ≡ true → is_among (Rows name) (reads_of statement) ≡ false → rows_of (next_of statement a) name ≡ add_sorted row_cmp (inserted statement a) (rows_of a name)
+rows_added_framed Begin a name written unread = absurd (false≢true written)
+rows_added_framed Commit a name written unread = absurd (false≢true written)
+rows_added_framed Rollback a name written unread = absurd (false≢true written)
+rows_added_framed (Vacuum table) a name written unread = absurd (false≢true written)
 rows_added_framed (Create spec) a name written unread = absurd (true≢false (sym written ∙ unread))
 rows_added_framed (Insert table rows) a name written unread =
     let P : List ℕ → Type 0 = λ k. rows_of (next_of (Insert table rows) a) k ≡ add_sorted row_cmp (inserted (Insert table rows) a) (rows_of a k) in
     subst P (sym (names_same name table (sym (or_false _) ∙ written))) (insert_adds table rows a (map.get a table) refl)
 rows_added_framed (Select query) a name written unread = absurd (false≢true written)
 
-select_same : (query : Query) (a : Tables) (object : Object) → SameAt a a object
-select_same query a (Def q) = refl
-select_same query a (Rows q) = refl
+-- a database has the same objects as itself
+same_itself : (a : Tables) (object : Object) → SameAt a a object
+same_itself a (Def q) = refl
+same_itself a (Rows q) = refl
 
 pub unwritten_framed : (statement : Statement) (a : Tables) (object : Object) → is_among object (writes_of statement) ≡ false → SameAt a (next_of statement a) object
+unwritten_framed Begin a object other = same_itself a object
+unwritten_framed Commit a object other = same_itself a object
+unwritten_framed Rollback a object other = same_itself a object
+unwritten_framed (Vacuum table) a object other = same_itself a object
 unwritten_framed (Create spec) a (Def q) other = ap def_in (create_other (create_refusal spec (map.get a spec.name)) _ spec.name (table_made spec) a q (sym (or_false _) ∙ other))
 unwritten_framed (Create spec) a (Rows q) other = ap rows_in (create_other (create_refusal spec (map.get a spec.name)) _ spec.name (table_made spec) a q (sym (or_false _) ∙ other))
 unwritten_framed (Insert name rows) a (Def q) other = insert_def_at name rows a q (same_name q name) refl
 unwritten_framed (Insert name rows) a (Rows q) other = ap rows_in (insert_other name rows a (map.get a name) refl q (sym (or_false _) ∙ other))
 unwritten_framed (Select query) a object other =
     let P : Tables → Type 0 = λ b. SameAt a b object in
-    subst P (sym (select_stays (query_refusal query (map.get a query.table)) query (map.get a query.table) a)) (select_same query a object)
+    subst P (sym (select_stays (query_refusal query (map.get a query.table)) query (map.get a query.table) a)) (same_itself a object)
 
 -- ---- rows in ascending order
 ascending_with : (rows sorted : List Row) → IsAscending sorted → IsAscending (add_sorted row_cmp rows sorted)
@@ -218,6 +235,10 @@ insert_ascending name rows a q true e up =
 insert_ascending name rows a q false e up = subst (λ (o : Option Table). IsAscending (rows_in o)) (insert_other name rows a (map.get a name) refl q e) (up q)
 
 pub ascending_framed : (statement : Statement) (a : Tables) → AllAscending a → AllAscending (next_of statement a)
+ascending_framed Begin a up q = up q
+ascending_framed Commit a up q = up q
+ascending_framed Rollback a up q = up q
+ascending_framed (Vacuum table) a up q = up q
 ascending_framed (Create spec) a up q = create_ascending (create_refusal spec (map.get a spec.name)) _ spec.name spec a q (same_name q spec.name) refl (up q)
 ascending_framed (Insert name rows) a up q = insert_ascending name rows a q (same_name q name) refl up
 ascending_framed (Select query) a up q =

@@ -7,9 +7,9 @@ use Rattle.dw_value.specs.declared.values.Row.{Row}
 use Rattle.dw_value.specs.Values.{row_cmp, admitted}
 use Rattle.dw_value.specs.Sorted.{add_sorted}
 use Rattle.dw_model.specs.declared.refusals.Refusal.{Refusal}
-use Rattle.dw_model.specs.declared.refusals.Refusal.TheVariants.{Unknown, Range}
+use Rattle.dw_model.specs.declared.refusals.Refusal.TheVariants.{Syntax, Unknown, Range}
 use Rattle.dw_model.specs.declared.statements.Statement.{Statement}
-use Rattle.dw_model.specs.declared.statements.Statement.TheVariants.{Create, Insert, Select}
+use Rattle.dw_model.specs.declared.statements.Statement.TheVariants.{Begin, Commit, Rollback, Vacuum, Create, Insert, Select}
 use Rattle.dw_model.specs.declared.statements.ColumnSpec.{ColumnSpec}
 use Rattle.dw_model.specs.declared.statements.TableSpec.{TableSpec}
 use Rattle.dw_model.specs.declared.statements.Query.{Query}
@@ -67,6 +67,10 @@ inserted_in rows (Some table) = taken_rows table.def.columns rows
 
 -- the rows that a statement adds to the table that it writes, in the order in which it gives them
 abbrev pub inserted : Statement → Tables → List Row
+inserted Begin tables = []
+inserted Commit tables = []
+inserted Rollback tables = []
+inserted (Vacuum table) tables = []
 inserted (Create spec) tables = []
 inserted (Insert table rows) tables = inserted_in rows (map_of.get tables table)
 inserted (Select query) tables = []
@@ -94,8 +98,13 @@ abbrev pub select_done : Query → Tables → Option Table → Plain
 select_done query tables None = Refused (Unknown query.table)
 select_done query tables (Some table) = Done (answers.Rows words.Select query.items (map fields_of (selected query table))) tables
 
--- what a statement gives, once its names and kinds are known to fit
+-- What a statement gives, once its names and kinds are known to fit. Those that begin and end blocks, and VACUUM, are not
+-- for a database: what becomes of them is a session's matter, and here they are refused.
 abbrev pub carried_out : Statement → Tables → Plain
+carried_out Begin tables = Refused (Syntax 0)
+carried_out Commit tables = Refused (Syntax 0)
+carried_out Rollback tables = Refused (Syntax 0)
+carried_out (Vacuum table) tables = Refused (Syntax 0)
 carried_out (Create spec) tables = Done (answers.Plain words.CreateTable) (map_of.insert tables spec.name (table_made spec))
 carried_out (Insert table rows) tables = insert_done table rows tables (map_of.get tables table)
 carried_out (Select query) tables = select_done query tables (map_of.get tables query.table)

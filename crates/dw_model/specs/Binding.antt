@@ -10,7 +10,7 @@ use Rattle.dw_value.specs.Values.{goes_with}
 use Rattle.dw_model.specs.declared.refusals.Refusal.{Refusal}
 use Rattle.dw_model.specs.declared.refusals.Refusal.TheVariants.{Unknown, Exists, Clash}
 use Rattle.dw_model.specs.declared.statements.Statement.{Statement}
-use Rattle.dw_model.specs.declared.statements.Statement.TheVariants.{Create, Insert, Select}
+use Rattle.dw_model.specs.declared.statements.Statement.TheVariants.{Begin, Commit, Rollback, Vacuum, Create, Insert, Select}
 use Rattle.dw_model.specs.declared.statements.ColumnSpec.{ColumnSpec}
 use Rattle.dw_model.specs.declared.statements.TableSpec.{TableSpec}
 use Rattle.dw_model.specs.declared.statements.Query.{Query}
@@ -102,6 +102,10 @@ query_refusal query (Some table) =
 
 -- the refusal of a statement whose names or kinds don't fit the database; none where they do
 abbrev pub bound_refusal : Statement → Tables → Option Refusal
+bound_refusal Begin tables = None
+bound_refusal Commit tables = None
+bound_refusal Rollback tables = None
+bound_refusal (Vacuum table) tables = None
 bound_refusal (Create spec) tables = create_refusal spec (map_of.get tables spec.name)
 bound_refusal (Insert table rows) tables = insert_refusal table rows (map_of.get tables table)
 bound_refusal (Select query) tables = query_refusal query (map_of.get tables query.table)

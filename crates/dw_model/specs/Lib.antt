@@ -5,3 +5,4 @@ pub mod Binding
 pub mod Selection
 pub mod Alone
 pub mod Objects
+pub mod Limits

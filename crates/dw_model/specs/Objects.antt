@@ -3,18 +3,28 @@
 use Rattle.std.specs.Prelude.{◌≡◌, Bool, false, List, [], ◌∷◌}
 use Rattle.std.specs.List.{list_any}
 use Rattle.dw_model.specs.declared.statements.Statement.{Statement}
-use Rattle.dw_model.specs.declared.statements.Statement.TheVariants.{Create, Insert, Select}
+use Rattle.dw_model.specs.declared.statements.Statement.TheVariants.{Begin, Commit, Rollback, Vacuum, Create, Insert, Select}
 use Rattle.dw_model.specs.declared.tables.Object.{Object}
 use Rattle.dw_model.specs.declared.tables.Object.TheVariants.{Def, Rows}
 use Rattle.dw_model.specs.Databases.{Tables, def_of, rows_of}
 use Rattle.dw_model.specs.Binding.{same_name}
 
+-- the objects that a statement reads; those that begin and end blocks, and VACUUM, read and write none
 abbrev pub reads_of : Statement → List Object
+reads_of Begin = []
+reads_of Commit = []
+reads_of Rollback = []
+reads_of (Vacuum table) = []
 reads_of (Create spec) = Def spec.name ∷ Rows spec.name ∷ []
 reads_of (Insert table rows) = Def table ∷ []
 reads_of (Select query) = Def query.table ∷ Rows query.table ∷ []
 
+-- the objects that a statement writes
 abbrev pub writes_of : Statement → List Object
+writes_of Begin = []
+writes_of Commit = []
+writes_of Rollback = []
+writes_of (Vacuum table) = []
 writes_of (Create spec) = Def spec.name ∷ Rows spec.name ∷ []
 writes_of (Insert table rows) = Rows table ∷ []
 writes_of (Select query) = []

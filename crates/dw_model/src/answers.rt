@@ -2,11 +2,20 @@ use crate::databases::Database;
 use crate::refusals::Refusal;
 use dw_value::{Field, List, Text};
 
-/// The words that a statement begins with, as an answer prints them.
+/// The words that a statement begins with, as a report prints them.
 #[derive(Clone, Copy, Debug)]
 pub enum Word {
+    /// BEGIN, also where the statement says START TRANSACTION.
+    Begin,
+    /// COMMIT, also where the statement says END.
+    Commit,
+    /// ROLLBACK, also where the statement says ABORT.
+    Rollback,
+    /// CREATE TABLE.
     CreateTable,
+    /// INSERT.
     Insert,
+    /// SELECT.
     Select,
 }
 

@@ -7,6 +7,7 @@
 mod answers;
 mod databases;
 mod laws;
+mod limits;
 mod refusals;
 mod statements;
 mod tables;
@@ -14,6 +15,7 @@ mod tables;
 pub use answers::{Answer, Plain, Word};
 pub use databases::{Database, Entry};
 pub use laws::{rows_stay_ascending, statements_have_a_frame};
+pub use limits::{MAX_ROWS, limit_refusal};
 pub use refusals::Refusal;
 pub use statements::{ColumnSpec, Query, Statement, TableSpec, Test};
 pub use tables::{Column, Object, Table, TableDef};

@@ -1,6 +1,6 @@
 ghost use Rattle.std.specs.Prelude.{◌≡◌, IfOk};
 
-use dw_value::Text;
+use dw_value::{List, Text};
 use std::alloc::AllocError;
 
 /// Why a statement isn't carried out. A refused statement leaves no trace but its line in the report.
@@ -18,6 +18,17 @@ pub enum Refusal {
     Clash,
     /// Number 5: a value that its column can't hold.
     Range,
+    /// Number 10: the statement would wait for sessions that wait for it. `cycle` begins with its session; each of these
+    /// waits for the next, and the last for the first.
+    Deadlock { cycle: List<u32> },
+    /// Number 11: the block is aborted, since a statement in it was refused.
+    Aborted,
+    /// Number 12: the statement can't stand in a block.
+    InBlock,
+    /// Number 13: the vacuum of this other session runs.
+    Vacuuming { session: u32 },
+    /// Number 14: the table that is written would have so many rows, which are too many.
+    Limit { count: u64 },
     /// Number 16: there was no memory for the answer. It may come in place of any answer.
     Memory,
 }
@@ -25,7 +36,7 @@ pub enum Refusal {
 impl Refusal {
     ghost use Rattle.dw_model.specs.Refusals.{number_of};
 
-    /// The refusal's number: 1 to 5, or 16.
+    /// The refusal's number: 1 to 5, 10 to 14, or 16.
     pub fn number(&self) -> u8
         ensures { result ≡ number_of self.now }
     {
@@ -35,6 +46,11 @@ impl Refusal {
             Refusal::Exists { .. } => 3,
             Refusal::Clash => 4,
             Refusal::Range => 5,
+            Refusal::Deadlock { .. } => 10,
+            Refusal::Aborted => 11,
+            Refusal::InBlock => 12,
+            Refusal::Vacuuming { .. } => 13,
+            Refusal::Limit { .. } => 14,
             Refusal::Memory => 16,
         }
     }
@@ -49,6 +65,11 @@ impl Refusal {
             Refusal::Exists { name } => Ok(Refusal::Exists { name: name.copy()? }),
             Refusal::Clash => Ok(Refusal::Clash),
             Refusal::Range => Ok(Refusal::Range),
+            Refusal::Deadlock { cycle } => Ok(Refusal::Deadlock { cycle: cycle.copy()? }),
+            Refusal::Aborted => Ok(Refusal::Aborted),
+            Refusal::InBlock => Ok(Refusal::InBlock),
+            Refusal::Vacuuming { session } => Ok(Refusal::Vacuuming { session: *session }),
+            Refusal::Limit { count } => Ok(Refusal::Limit { count: *count }),
             Refusal::Memory => Ok(Refusal::Memory),
         }
     }
@@ -72,7 +93,11 @@ mod tests {
             Refusal::Exists { name } => assert_eq!(rt; name.as_str(), "stock"),
             other => assert_eq!(rt; other.number(), 2),
         }
-        for (refusal, number) in [(Refusal::Clash, 4), (Refusal::Memory, 16)] {
+        for (refusal, number) in [
+            (Refusal::Clash, 4),
+            (Refusal::Vacuuming { session: 2 }, 13),
+            (Refusal::Memory, 16),
+        ] {
             assert_eq!(rt; refusal.copy()?.number(), number);
         }
         Ok(())
