@@ -65,7 +65,9 @@ impl Refusal {
             Refusal::Exists { name } => Ok(Refusal::Exists { name: name.copy()? }),
             Refusal::Clash => Ok(Refusal::Clash),
             Refusal::Range => Ok(Refusal::Range),
-            Refusal::Deadlock { cycle } => Ok(Refusal::Deadlock { cycle: cycle.copy()? }),
+            Refusal::Deadlock { cycle } => Ok(Refusal::Deadlock {
+                cycle: cycle.copy()?,
+            }),
             Refusal::Aborted => Ok(Refusal::Aborted),
             Refusal::InBlock => Ok(Refusal::InBlock),
             Refusal::Vacuuming { session } => Ok(Refusal::Vacuuming { session: *session }),
