@@ -16,6 +16,7 @@ fn show_value(line: &mut String, value: &Value) -> Result<(), AllocError> {
             write!(line, "'{text}' ")
         }
         Value::Null => line.push_str("null "),
+        Value::Day(_) | Value::Truth(_) => line.push_str("? "),
     }
 }
 
@@ -48,6 +49,7 @@ fn show_statement(line: &mut String, statement: &Statement) -> Result<(), AllocE
                 match column.kind {
                     Kind::Int => write!(line, "{name} int ")?,
                     Kind::Varchar { length } => write!(line, "{name} varchar {length} ")?,
+                    _ => write!(line, "{name} ? ")?,
                 }
             }
             Ok(())

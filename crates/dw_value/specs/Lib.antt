@@ -1,3 +1,5 @@
+pub mod Texts
+pub mod Dates
 pub mod Values
 pub mod Sorted
 pub mod ValueOrder
@@ -5,3 +7,4 @@ pub mod SortedLaws
 pub mod SortedItems
 pub mod Ascending
 pub mod SortedRows
+pub mod Scales

@@ -1,0 +1,2 @@
+pub mod EndSpaces
+pub mod Powers
