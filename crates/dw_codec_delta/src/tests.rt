@@ -36,6 +36,38 @@ fn check_row(
     Ok(())
 }
 
+fn check_end(
+    rt: &impl Abort,
+    alloc: Global,
+    width: u8,
+    step: u8,
+    values: &[i128],
+) -> Result<(), Fail>
+    requires width { IsWidth width }
+    requires step { IsDeltaStep step }
+{
+    assert!(rt; values.len() <= 4096);
+    assert!(rt; all_fit(width, values));
+    let count = values.len() as u32;
+    let mut bytes = encode_delta(alloc, width, step, values)?;
+    let read = decode_delta(alloc, width, step, &bytes, count)?;
+    assert_eq!(rt; read.as_slice(), values);
+    let place = bytes.len() as u64;
+    bytes.push(0)?;
+    assert_eq!(rt;
+        decode_delta(alloc, width, step, &bytes, count).err(),
+        Some(CodecFault::Damaged { place })
+    );
+    Ok(())
+}
+
+fn check_ends(rt: &impl Abort, alloc: Global, width: u8, values: &[i128]) -> Result<(), Fail>
+    requires { IsWidth width }
+{
+    check_end(rt, alloc, width, 1, values)?;
+    check_end(rt, alloc, width, 2, values)
+}
+
 const DELTA: [u8; 14] = [
     0x01, 0, 0, 0, 0x04, 0x2d, 0x80, 0xc8, 0, 0, 0, 0xf1, 0x23, 0x01,
 ];
@@ -73,6 +105,25 @@ fn delta_rows(rt: HostRuntime) -> Result<(), Fail> {
     let bytes = vec![in rt.alloc(); 0; 4096]?;
     check_row(&rt, rt.alloc(), 1, 1, &many, &bytes)?;
     Ok(())
+}
+
+// The least value of each width, the greatest and the least again; no value; and 4,096 of them.
+#[test]
+fn limits(rt: HostRuntime) -> Result<(), Fail> {
+    check_ends(&rt, rt.alloc(), 1, &[-0x80, 0x7f, -0x80])?;
+    check_ends(&rt, rt.alloc(), 2, &[-0x8000, 0x7fff, -0x8000])?;
+    check_ends(
+        &rt,
+        rt.alloc(),
+        4,
+        &[-0x8000_0000, 0x7fff_ffff, -0x8000_0000],
+    )?;
+    let (least, greatest) = (i64::MIN.into(), i64::MAX.into());
+    check_ends(&rt, rt.alloc(), 8, &[least, greatest, least])?;
+    check_ends(&rt, rt.alloc(), 16, &[i128::MIN, i128::MAX, i128::MIN])?;
+    check_ends(&rt, rt.alloc(), 16, &[])?;
+    let many = vec![in rt.alloc(); i128::MIN; 4096]?;
+    check_ends(&rt, rt.alloc(), 16, &many)
 }
 
 #[test]

@@ -1,9 +1,9 @@
 -- What a decoder's loop has read, and what follows where it stops.
-use Rattle.std.proofs.Common.{◌≡◌, ℕ, zero, suc, ◌+◌, ◌-◌, ◌≤◌, ◌<◌, Option, Some, None, List, [], ◌∷◌, ◌++◌, length, take, drop, get_or, refl, sym, ap, ◌∙◌, append_assoc, arith, length-append, subst}
+use Rattle.std.proofs.Common.{◌≡◌, ℕ, suc, ◌+◌, ◌-◌, ◌≤◌, ◌<◌, Option, None, List, [], ◌∷◌, ◌++◌, length, get_or, refl, sym, ap, ◌∙◌, append_assoc, arith, length-append, subst}
 use Rattle.std.specs.Prelude.{All}
 use Rattle.std.proofs.lemmas.List.{append-nil, nil_from_length, get_or-append-add}
 use Rattle.std.proofs.lemmas.List.Elements.{All-nil, All-push}
-use Rattle.dw_codec_plain.specs.Spelling.{spelled, IsListOf, IsSpelling, IsItem, NoItem, Begins, IsLongestFront, IsDamagedAt}
+use Rattle.dw_codec_plain.specs.Spelling.{spelled, IsListOf, IsItem, NoItem, IsLongestFront, IsDamagedAt}
 use Rattle.dw_codec_plain.proofs.Naturals.{AreBytes}
 use Rattle.dw_codec_plain.proofs.Items.{IsPrefixFree, last_of, spelled_push, stops, goes_on, trails}
 

@@ -1,13 +1,13 @@
 -- How numbers in a short form or behind a mark begin.
-use Rattle.std.proofs.Common.{◌≡◌, ◌≢◌, ℕ, zero, suc, ◌+◌, ◌-◌, ◌≤◌, ◌<◌, max, ◌⊎◌, inl, inr, Bool, true, false, Option, None, List, [], ◌∷◌, ◌++◌, length, take, drop, refl, sym, ap, ◌∙◌, append_assoc, subst, arith, length-append, length-drop, ℤ, pos, neg_ℤ, ◌+ℤ◌, ◌-ℤ◌}
+use Rattle.std.proofs.Common.{◌≡◌, ℕ, ◌+◌, ◌-◌, ◌≤◌, ◌<◌, max, ◌⊎◌, inl, inr, true, None, List, [], ◌∷◌, ◌++◌, length, take, drop, refl, sym, ap, ◌∙◌, append_assoc, subst, arith, length-drop, ℤ, pos, neg_ℤ, ◌+ℤ◌, ◌-ℤ◌}
 use Rattle.std.specs.Prelude.{◌≤ℤ◌, ◌<ℤ◌}
 use Rattle.std.specs.Int.{int_max, int_min}
 use Rattle.std.proofs.Math.Seq.{take-append-add}
 use Rattle.std.proofs.lemmas.Bool.{cases_Bool, cases_lt}
 use Rattle.std.proofs.lemmas.Int.{ints, clamps}
 use Rattle.std.proofs.lemmas.List.{length-take-le, take-append-drop, append_cancel_left, take_all}
-use Rattle.dw_codec_plain.specs.Numbers.{IsWidth, half, FitsWidth, number, IsNumberWithin}
-use Rattle.dw_codec_plain.specs.Encodings.{is_short, short_or_full, near_item, IsShortForm, IsMarkedWithin}
+use Rattle.dw_codec_plain.specs.Numbers.{half, FitsWidth, number, IsNumberWithin}
+use Rattle.dw_codec_plain.specs.Encodings.{is_short, near_item, IsShortForm, IsMarkedWithin}
 use Rattle.dw_codec_plain.specs.Spelling.{IsItem, Begins, IsLongestFront, IsLongestFrontIfAny}
 use Rattle.dw_codec_plain.proofs.Fronts.{overlap, begins_less}
 use Rattle.dw_codec_plain.proofs.NumberFronts.{begins_within_width}

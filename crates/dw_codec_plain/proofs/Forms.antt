@@ -1,15 +1,14 @@
 -- Numbers in a short form or behind a mark.
-use Rattle.std.proofs.Common.{◌≡◌, ◌≢◌, ℕ, zero, suc, ◌+◌, ◌-◌, ◌^◌, ◌≤◌, ◌<◌, ◌⊎◌, inl, inr, Bool, true, false, Option, None, List, [], ◌∷◌, ◌++◌, length, take, drop, refl, sym, ap, ◌∙◌, append_assoc, subst, arith, length-append, ℤ, pos, negsuc, neg_ℤ, unsigned_abs, ◌+ℤ◌, ◌-ℤ◌}
-use Rattle.std.specs.Prelude.{◌≤ℤ◌, ◌<ℤ◌, IsTrue}
+use Rattle.std.proofs.Common.{◌≡◌, ◌≢◌, ℕ, ◌+◌, ◌^◌, ◌≤◌, ◌<◌, ◌⊎◌, inl, inr, true, false, None, List, ◌++◌, length, take, drop, refl, sym, ap, ◌∙◌, append_assoc, subst, arith, length-append, ℤ, pos, negsuc, neg_ℤ, unsigned_abs, ◌+ℤ◌, ◌-ℤ◌}
+use Rattle.std.specs.Prelude.{◌≤ℤ◌, ◌<ℤ◌}
 use Rattle.std.specs.Int.Signed.{le_z}
 use Rattle.std.proofs.lemmas.Bool.{cases_Bool, cond-true, cond-false, ltb-true, ltb-false, lt-ltb, le-ltb, both_ways}
 use Rattle.std.proofs.lemmas.Int.{ints, by_lt_z}
-use Rattle.std.proofs.lemmas.List.{length-take-le, take-append-drop, take_at}
+use Rattle.std.proofs.lemmas.List.{take-append-drop, take_at}
 use Rattle.dw_codec_plain.specs.Numbers.{IsWidth, half, FitsWidth, number}
 use Rattle.dw_codec_plain.specs.Encodings.{is_short, short_or_full, near_item, IsMostlyStep}
 use Rattle.dw_codec_plain.specs.Spelling.{NoItem}
 use Rattle.dw_codec_plain.proofs.Fronts.{same_front}
-use Rattle.dw_codec_plain.proofs.Items.{IsPrefixFree}
 use Rattle.dw_codec_plain.proofs.Signed.{IsSized, sized, same_number}
 use Rattle.dw_codec_plain.proofs.RawItems.{length-number}
 

@@ -1,7 +1,7 @@
 -- How lists begin.
-use Rattle.std.proofs.Common.{◌≡◌, ℕ, zero, suc, ◌+◌, ◌-◌, ◌≤◌, ◌<◌, List, [], ◌∷◌, ◌++◌, length, take, drop, refl, sym, ap, ◌∙◌, append_assoc, arith, length-append, length-drop}
-use Rattle.std.proofs.lemmas.List.{append-nil, append_cancel_left, take-append-drop, length-take-le, take-append-le, take-take, take_at, drop_at}
-use Rattle.dw_codec_plain.specs.Spelling.{Begins, IsLongestFront}
+use Rattle.std.proofs.Common.{◌≡◌, ℕ, ◌≤◌, List, [], ◌∷◌, ◌++◌, length, take, drop, refl, sym, ap, ◌∙◌, append_assoc, arith}
+use Rattle.std.proofs.lemmas.List.{take-append-drop, take-take, take_at, drop_at}
+use Rattle.dw_codec_plain.specs.Spelling.{Begins}
 
 -- of two lists that begin one list, the longer begins with the shorter
 pub overlap : (a x b y : List ℕ) → a ++ x ≡ b ++ y → length b ≤ length a → (z : List ℕ) × (a ≡ b ++ z) × (z ++ x ≡ y)

@@ -1,12 +1,12 @@
 -- The next value from a low one whose number begins with given bytes.
-use Rattle.std.proofs.Common.{◌≡◌, ℕ, zero, suc, ◌+◌, ◌-◌, ◌*◌, ◌/◌, ◌%◌, ◌^◌, ◌≤◌, ◌<◌, ◌⊎◌, inl, inr, subst, List, length, take, drop, ◌++◌, refl, sym, ap, ◌∙◌, arith, ℤ, pos, negsuc, neg_ℤ, unsigned_abs, FitsSigned, to_z, of_z}
-use Rattle.std.specs.Prelude.{◌≤ℤ◌, ◌<ℤ◌, ◌+ℤ◌, ◌-ℤ◌}
+use Rattle.std.proofs.Common.{◌≡◌, ℕ, suc, ◌+◌, ◌-◌, ◌*◌, ◌/◌, ◌%◌, ◌^◌, ◌≤◌, ◌<◌, ◌⊎◌, inl, inr, subst, List, length, take, refl, sym, ap, ◌∙◌, arith, ℤ, pos, negsuc, unsigned_abs, FitsSigned, to_z, of_z}
+use Rattle.std.specs.Prelude.{◌≤ℤ◌, ◌+ℤ◌, ◌-ℤ◌}
 use Rattle.std.specs.Int.{w128, cast_unsigned, to_le_bytes}
 use Rattle.std.proofs.Math.Nat.{mul-le-mul_left}
 use Rattle.std.proofs.lemmas.Bool.{cases_lt}
 use Rattle.std.proofs.lemmas.Int.{ints, to_z-of_z}
 use Rattle.std.proofs.lemmas.Nat.{pow-add, pow_pos, mod_low, div-add-mod'}
-use Rattle.dw_codec_plain.specs.Numbers.{natural_of, low_bytes, number, IsNumberWithin}
+use Rattle.dw_codec_plain.specs.Numbers.{natural_of, low_bytes, IsNumberWithin}
 use Rattle.dw_codec_plain.proofs.Naturals.{AreBytes, natural_of-low_bytes, natural_of-lt, low_bytes_from, written_is}
 
 distribute : (m p d : ℕ) → m * (p + d) ≡ m * p + m * d

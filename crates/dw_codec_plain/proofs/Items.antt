@@ -1,11 +1,11 @@
 -- Values spelled one after another: how far bytes begin a spelling follows from how far they begin an item.
-use Rattle.std.proofs.Common.{◌≡◌, ℕ, zero, suc, ◌+◌, ◌-◌, ◌≤◌, ◌<◌, Option, Some, None, List, [], ◌∷◌, ◌++◌, length, take, drop, refl, sym, ap, ◌∙◌, append_assoc, arith, length-append, length-drop, ◌⊎◌, inl, inr, subst}
+use Rattle.std.proofs.Common.{◌≡◌, ℕ, suc, ◌+◌, ◌-◌, ◌≤◌, ◌<◌, Option, Some, List, [], ◌∷◌, ◌++◌, length, take, drop, refl, sym, ap, ◌∙◌, append_assoc, arith, length-append, inl, inr, subst}
 use Rattle.std.specs.Prelude.{All, replicate}
 use Rattle.std.proofs.Math.Seq.{take-append-add}
-use Rattle.std.proofs.lemmas.List.{append-nil, append_cancel_left, take-append-drop, length-take-le, length-replicate, take-append-le}
+use Rattle.std.proofs.lemmas.List.{append-nil, append_cancel_left, take-append-drop, length-take-le, length-replicate}
 use Rattle.std.proofs.lemmas.List.Elements.{All-nil, All-cons, All-head, All-tail, All-replicate}
 use Rattle.std.proofs.lemmas.Bool.{cases_lt}
-use Rattle.dw_codec_plain.specs.Spelling.{spelled, IsListOf, IsSpelling, IsItem, NoItem, Begins, IsLongestFront, IsDamagedAt}
+use Rattle.dw_codec_plain.specs.Spelling.{spelled, IsListOf, IsItem, NoItem, IsLongestFront, IsDamagedAt}
 use Rattle.dw_codec_plain.proofs.Fronts.{overlap}
 
 -- no item begins another behind the same value

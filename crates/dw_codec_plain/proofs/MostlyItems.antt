@@ -1,8 +1,8 @@
 -- Values in a short form or behind a mark, one after another.
-use Rattle.std.proofs.Common.{◌≡◌, ℕ, ◌+◌, ◌≤◌, Option, None, List, ◌++◌, length, take, drop, refl, sym, ap, ◌∙◌, arith, ℤ, pos, ◌-ℤ◌, subst}
+use Rattle.std.proofs.Common.{◌≡◌, ℕ, Option, None, List, ◌++◌, take, drop, sym, ap, ◌∙◌, arith, ℤ, pos, ◌-ℤ◌}
 use Rattle.std.proofs.lemmas.Int.{ints}
 use Rattle.std.proofs.lemmas.List.{take-append-drop}
-use Rattle.dw_codec_plain.specs.Numbers.{IsWidth, half, FitsWidth}
+use Rattle.dw_codec_plain.specs.Numbers.{IsWidth, FitsWidth}
 use Rattle.dw_codec_plain.specs.Encodings.{short_or_full, near_item}
 use Rattle.dw_codec_plain.specs.Spelling.{IsItem, NoItem, IsLongestFront}
 use Rattle.dw_codec_plain.proofs.Items.{IsPrefixFree}

@@ -1,11 +1,11 @@
 -- How numbers of some width begin.
-use Rattle.std.proofs.Common.{◌≡◌, ℕ, zero, suc, ◌+◌, ◌≤◌, ◌<◌, ◌⊎◌, inl, inr, subst, List, [], ◌++◌, length, take, drop, refl, sym, ap, ◌∙◌, arith, length-append, ℤ}
+use Rattle.std.proofs.Common.{◌≡◌, ℕ, ◌+◌, ◌≤◌, ◌<◌, ◌⊎◌, inl, inr, List, ◌++◌, length, take, drop, refl, sym, ap, ◌∙◌, arith, length-append, ℤ}
 use Rattle.std.specs.Prelude.{◌≤ℤ◌}
 use Rattle.std.specs.Int.{w128, cast_unsigned}
 use Rattle.std.proofs.lemmas.List.{take-append-drop, length-take-le, take_at}
 use Rattle.std.proofs.lemmas.Bool.{cases_lt}
 use Rattle.std.proofs.lemmas.Int.{ints}
-use Rattle.dw_codec_plain.specs.Numbers.{number, low_bytes, IsNumberWithin}
+use Rattle.dw_codec_plain.specs.Numbers.{number, IsNumberWithin}
 use Rattle.dw_codec_plain.specs.Spelling.{Begins, IsLongestFront}
 use Rattle.dw_codec_plain.proofs.Naturals.{length-low_bytes, take-low_bytes}
 use Rattle.dw_codec_plain.proofs.Fronts.{begins_less}

@@ -1,10 +1,10 @@
 -- Numbers in full width, one after another.
-use Rattle.std.proofs.Common.{◌≡◌, ℕ, zero, suc, ◌+◌, ◌-◌, ◌≤◌, ◌<◌, Option, List, [], ◌∷◌, ◌++◌, length, take, drop, get_or, refl, sym, ap, ◌∙◌, arith, length-append, ℤ}
+use Rattle.std.proofs.Common.{◌≡◌, ℕ, zero, suc, ◌-◌, ◌≤◌, ◌<◌, Option, List, [], ◌∷◌, ◌++◌, length, take, refl, sym, ap, ◌∙◌, arith, length-append, ℤ}
 use Rattle.std.specs.Prelude.{replicate}
 use Rattle.std.specs.Int.{w128, cast_unsigned}
-use Rattle.std.proofs.lemmas.List.{append-nil, length-take-le, length-replicate, take_all}
+use Rattle.std.proofs.lemmas.List.{length-replicate, take_all}
 use Rattle.dw_codec_plain.specs.Numbers.{IsWidth, FitsWidth, number}
-use Rattle.dw_codec_plain.specs.Spelling.{IsItem, NoItem, Begins, IsLongestFront}
+use Rattle.dw_codec_plain.specs.Spelling.{IsItem, NoItem, IsLongestFront}
 use Rattle.dw_codec_plain.proofs.Fronts.{same_front}
 use Rattle.dw_codec_plain.proofs.Items.{IsPrefixFree}
 use Rattle.dw_codec_plain.proofs.Naturals.{AreBytes, length-low_bytes}

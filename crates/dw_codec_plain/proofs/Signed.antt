@@ -1,9 +1,9 @@
 -- Values and the bytes of their two's complement.
-use Rattle.std.proofs.Common.{◌≡◌, ℕ, zero, suc, ◌+◌, ◌-◌, ◌*◌, ◌/◌, ◌%◌, ◌^◌, ◌≤◌, ◌<◌, ◌⊎◌, inl, inr, subst, List, length, take, refl, sym, ap, ◌∙◌, arith, ℤ, pos, negsuc, neg_ℤ, unsigned_abs, FitsSigned, to_z, of_z}
-use Rattle.std.specs.Prelude.{◌≤ℤ◌, ◌<ℤ◌, ◌+ℤ◌, ◌-ℤ◌}
-use Rattle.std.specs.Int.{w128, cast_unsigned, cast_signed}
+use Rattle.std.proofs.Common.{◌≡◌, ℕ, suc, ◌-◌, ◌*◌, ◌%◌, ◌^◌, ◌≤◌, ◌<◌, inl, inr, subst, List, length, take, refl, sym, ap, ◌∙◌, arith, ℤ, pos, negsuc, neg_ℤ, FitsSigned, to_z, of_z}
+use Rattle.std.specs.Prelude.{◌+ℤ◌}
+use Rattle.std.specs.Int.{w128, cast_unsigned}
 use Rattle.std.proofs.lemmas.Int.{ints, to_z-of_z}
-use Rattle.dw_codec_plain.specs.Numbers.{IsWidth, half, FitsWidth, natural_of, low_bytes, number}
+use Rattle.dw_codec_plain.specs.Numbers.{IsWidth, half, FitsWidth, natural_of, number}
 use Rattle.std.proofs.lemmas.List.{length-take-le, take_all}
 use Rattle.std.proofs.lemmas.Bool.{cases_lt}
 use Rattle.dw_codec_plain.proofs.Naturals.{AreBytes, taken_are_bytes, low_bytes_from, natural_of-low_bytes, natural_of-lt}

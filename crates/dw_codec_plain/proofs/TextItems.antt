@@ -1,15 +1,15 @@
 -- Texts, each with its length before it, one after another.
-use Rattle.std.proofs.Common.{◌≡◌, ℕ, zero, suc, ◌+◌, ◌-◌, ◌*◌, ◌^◌, ◌%◌, ◌≤◌, ◌<◌, Option, None, List, [], ◌∷◌, ◌++◌, length, take, drop, get_or, refl, sym, ap, ◌∙◌, append_assoc, arith, length-append, length-drop, subst}
+use Rattle.std.proofs.Common.{◌≡◌, ℕ, ◌+◌, ◌-◌, ◌*◌, ◌^◌, ◌%◌, ◌≤◌, ◌<◌, Option, None, List, ◌++◌, length, take, drop, get_or, refl, sym, ap, ◌∙◌, append_assoc, arith, length-append, subst}
 use Rattle.std.specs.Prelude.{All, replicate}
 use Rattle.std.proofs.Math.Nat.{mod-eq_of_lt}
-use Rattle.std.proofs.lemmas.List.{take-append-drop, length-take-le, length-replicate, take_all, get_or-drop, replicate-append-replicate}
+use Rattle.std.proofs.lemmas.List.{take-append-drop, length-take-le, length-replicate, take_all, get_or-drop}
 use Rattle.std.proofs.lemmas.List.Elements.{All-from_get_or, All-replicate, All-append}
 use Rattle.dw_codec_plain.specs.Numbers.{natural_of, low_bytes}
 use Rattle.dw_codec_plain.specs.Encodings.{IsText, raw_text, raw_text_item}
-use Rattle.dw_codec_plain.specs.Spelling.{IsItem, NoItem, Begins, IsLongestFront}
+use Rattle.dw_codec_plain.specs.Spelling.{IsItem, NoItem, IsLongestFront}
 use Rattle.dw_codec_plain.proofs.Fronts.{same_front}
 use Rattle.dw_codec_plain.proofs.Items.{IsPrefixFree}
-use Rattle.dw_codec_plain.proofs.Naturals.{AreBytes, length-low_bytes, taken_are_bytes, natural_of-low_bytes, natural_of-lt, natural_of-append, zeros, low_bytes_from}
+use Rattle.dw_codec_plain.proofs.Naturals.{AreBytes, length-low_bytes, taken_are_bytes, natural_of-low_bytes, natural_of-lt, low_bytes_from}
 use Rattle.dw_codec_plain.proofs.FormFronts.{same_texts}
 use Rattle.dw_codec_plain.proofs.RawItems.{filled_are_bytes}
 

@@ -1,4 +1,4 @@
-ghost use Rattle.std.specs.Prelude.{All, IsTrue};
+ghost use Rattle.std.specs.Prelude.{◌≤◌, length, All, IsTrue};
 ghost use Rattle.dw_codec_plain.specs.Numbers.{IsWidth, FitsWidth};
 ghost use Rattle.dw_codec_plain.specs.Encodings.{IsMostlyStep};
 
@@ -50,6 +50,69 @@ fn check_mostly(
     assert_eq!(rt; written.as_slice(), bytes);
     let read = decode_mostly(alloc, width, step, bytes, values.len() as u32)?;
     assert_eq!(rt; read.as_slice(), values);
+    Ok(())
+}
+
+fn check_raw_end(rt: &impl Abort, alloc: Global, width: u8, values: &[i128]) -> Result<(), Fail>
+    requires { IsWidth width }
+{
+    assert!(rt; values.len() <= 4096);
+    assert!(rt; all_fit(width, values));
+    let count = values.len() as u32;
+    let mut bytes = encode_raw(alloc, width, values)?;
+    let read = decode_raw(alloc, width, &bytes, count)?;
+    assert_eq!(rt; read.as_slice(), values);
+    let place = bytes.len() as u64;
+    bytes.push(0)?;
+    assert_eq!(rt;
+        decode_raw(alloc, width, &bytes, count).err(),
+        Some(CodecFault::Damaged { place })
+    );
+    Ok(())
+}
+
+fn check_mostly_end(
+    rt: &impl Abort,
+    alloc: Global,
+    width: u8,
+    step: u8,
+    values: &[i128],
+) -> Result<(), Fail>
+    requires width { IsWidth width }
+    requires step { IsMostlyStep step }
+{
+    assert!(rt; values.len() <= 4096);
+    assert!(rt; all_fit(width, values));
+    let count = values.len() as u32;
+    let mut bytes = encode_mostly(alloc, width, step, values)?;
+    let read = decode_mostly(alloc, width, step, &bytes, count)?;
+    assert_eq!(rt; read.as_slice(), values);
+    let place = bytes.len() as u64;
+    bytes.push(0)?;
+    assert_eq!(rt;
+        decode_mostly(alloc, width, step, &bytes, count).err(),
+        Some(CodecFault::Damaged { place })
+    );
+    Ok(())
+}
+
+// Whether each text has at most 65,535 bytes.
+fn all_are_texts(values: &[Bytes]) -> bool
+    ensures { IsTrue result → All (λ text. length text ≤ 65535) values.now }
+{
+    values.iter().all(|text| text.as_slice().len() <= 65535)
+}
+
+fn check_texts(rt: &impl Abort, alloc: Global, values: &[Bytes], bytes: &[u8]) -> Result<(), Fail> {
+    assert!(rt; values.len() <= 4096);
+    assert!(rt; all_are_texts(values));
+    let written = encode_raw_texts(alloc, values)?;
+    assert_eq!(rt; written.as_slice(), bytes);
+    let read = decode_raw_texts(alloc, bytes, values.len() as u32)?;
+    assert_eq!(rt; read.len(), values.len());
+    for (text, value) in read.iter().zip(values) {
+        assert_eq!(rt; text.as_slice(), value.as_slice());
+    }
     Ok(())
 }
 
@@ -183,17 +246,35 @@ fn damaged_mostly(rt: HostRuntime) {
     );
 }
 
+fn check_ends(rt: &impl Abort, alloc: Global, width: u8, values: &[i128]) -> Result<(), Fail>
+    requires { IsWidth width }
+{
+    check_raw_end(rt, alloc, width, values)?;
+    check_mostly_end(rt, alloc, width, 1, values)?;
+    check_mostly_end(rt, alloc, width, 2, values)?;
+    check_mostly_end(rt, alloc, width, 4, values)
+}
+
+// The least value of each width, the greatest and 0; no value; and 4,096 of them.
+#[test]
+fn limits(rt: HostRuntime) -> Result<(), Fail> {
+    check_ends(&rt, rt.alloc(), 1, &[-0x80, 0x7f, 0])?;
+    check_ends(&rt, rt.alloc(), 2, &[-0x8000, 0x7fff, 0])?;
+    check_ends(&rt, rt.alloc(), 4, &[-0x8000_0000, 0x7fff_ffff, 0])?;
+    check_ends(&rt, rt.alloc(), 8, &[i64::MIN.into(), i64::MAX.into(), 0])?;
+    check_ends(&rt, rt.alloc(), 16, &[i128::MIN, i128::MAX, 0])?;
+    check_ends(&rt, rt.alloc(), 16, &[])?;
+    let many = vec![in rt.alloc(); i128::MIN; 4096]?;
+    check_ends(&rt, rt.alloc(), 16, &many)
+}
+
 #[test]
 fn text_rows(rt: HostRuntime) -> Result<(), Fail> {
-    let row = [2, 0, b'a', b'b', 0, 0];
-    let texts = decode_raw_texts(rt.alloc(), &row, 2)?;
-    assert_eq!(rt; texts.len(), 2);
-    assert_eq!(rt; texts[0].as_slice(), b"ab".as_slice());
-    assert_eq!(rt; texts[1].as_slice(), b"".as_slice());
-    let one = vec![in rt.alloc(); Bytes::from_slice(rt.alloc(), b"ab")?]?;
-    assert!(rt; one.len() == 1 && one[0].as_slice().len() <= 65535);
-    let _ = Bytes::new(vec![in rt.alloc(); 1, 2]?);
-    Ok(())
+    let word = Bytes::from_slice(rt.alloc(), b"ab")?;
+    let empty = Bytes::new(vec![in rt.alloc()]?);
+    let texts = vec![in rt.alloc(); word, empty]?;
+    check_texts(&rt, rt.alloc(), &texts, &[2, 0, b'a', b'b', 0, 0])?;
+    check_texts(&rt, rt.alloc(), &[], &[])
 }
 
 #[test]

@@ -55,8 +55,8 @@ fn spelled_len(texts: &[Bytes]) -> usize {
     len
 }
 
-// Writes a text at the end.
-fn push_text(out: &mut Vec<u8>, text: &Bytes) -> Result<(), AllocError>
+/// Writes a text at the end, with its length before it. An `Err` may leave some of its bytes there.
+pub fn push_text(out: &mut Vec<u8>, text: &Bytes) -> Result<(), AllocError>
     requires { length text.now ≤ 65535 }
     ensures ok { OnOk result (out.new.items ≡ out.old.items ++ raw_text text.now) }
 {
@@ -78,8 +78,9 @@ pub fn encode_raw_texts(alloc: Global, values: &[Bytes]) -> Result<Vec<u8>, Allo
     Ok(bytes)
 }
 
-// The text at the front of the bytes, and the bytes behind it. `None` where the bytes end before the text does.
-fn text_at(bytes: &[u8]) -> Option<(&[u8], &[u8])>
+/// The text at the front of the bytes, with its length before it, and the bytes behind it. `None` where the bytes end
+/// before the text does.
+pub fn text_at(bytes: &[u8]) -> Option<(&[u8], &[u8])>
     ensures text { IfSome result (λ found. IsText found.0.now) }
     ensures spells { IfSome result (λ found. bytes.now ≡ raw_text found.0.now ++ found.1.now) }
     ensures none { IfNone result (NoItem raw_text_item IsText None bytes.now) }

@@ -1,5 +1,4 @@
-use Rattle.std.proofs.Common.{◌≡◌, ◌++◌, ℤ, pos, ◌-ℤ◌, List, ℕ, get_or, to_z, of_z, ap, ◌∙◌}
-use Rattle.std.specs.Int.{w128}
+use Rattle.std.proofs.Common.{◌≡◌, ◌++◌, ℤ, pos, ◌-ℤ◌, List, ℕ, get_or, ap, ◌∙◌}
 use Rattle.std.proofs.lemmas.List.Elements.{All-get_or}
 use Rattle.dw_codec_plain.specs.Numbers.{FitsWidth}
 use Rattle.dw_codec_plain.specs.Encodings.{short_or_full}

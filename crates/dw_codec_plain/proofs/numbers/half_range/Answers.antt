@@ -1,4 +1,4 @@
-use Rattle.std.proofs.Common.{◌≡◌, ℕ, ◌*◌, ◌-◌, ◌^◌, ◌%◌, arith, subst, sym, ap, ◌∙◌}
+use Rattle.std.proofs.Common.{◌≡◌, ℕ, ◌*◌, ◌-◌, ◌^◌, ◌%◌, arith, ap, ◌∙◌}
 use Rattle.dw_codec_plain.specs.Numbers.{half}
 use Rattle.dw_codec_plain.proofs.Signed.{half_shifted, sized}
 use Rattle.dw_codec_plain.proofs.numbers.half_range.Goals as goal

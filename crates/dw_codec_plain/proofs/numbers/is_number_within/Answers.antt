@@ -1,4 +1,4 @@
-use Rattle.std.proofs.Common.{◌≡◌, ◌≤◌, ◌<◌, ◌+◌, ◌-◌, ◌*◌, ◌^◌, ◌-ℤ◌, ℕ, length, arith, refl, unsigned_abs}
+use Rattle.std.proofs.Common.{◌≡◌, ◌≤◌, ◌<◌, ◌+◌, ◌*◌, ◌^◌, ◌-ℤ◌, ℕ, length, arith, refl, unsigned_abs}
 use Rattle.std.proofs.lemmas.Bool.{le-leb, leb-true}
 use Rattle.dw_codec_plain.specs.Numbers.{natural_of}
 use Rattle.dw_codec_plain.proofs.Naturals.{greatest_is}

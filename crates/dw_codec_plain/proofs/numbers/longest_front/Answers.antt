@@ -1,7 +1,7 @@
-use Rattle.std.proofs.Common.{◌≡◌, ◌≤◌, ◌<◌, ◌+◌, ◌⊎◌, inl, inr, take, length, arith, ℤ, subst, false, true}
+use Rattle.std.proofs.Common.{◌≡◌, ◌+◌, inl, inr, take, length, arith, subst}
 use Rattle.std.proofs.lemmas.Bool.{cases_lt, both_ways}
 use Rattle.dw_codec_plain.specs.Numbers.{IsNumberWithin}
-use Rattle.dw_codec_plain.specs.Spelling.{Begins, IsLongestFront}
+use Rattle.dw_codec_plain.specs.Spelling.{Begins}
 use Rattle.dw_codec_plain.proofs.Signed.{at_bits, from_bits}
 use Rattle.dw_codec_plain.proofs.NumberFronts.{begins_at_all, stops_at, stops_whole, goes_further}
 use Rattle.dw_codec_plain.proofs.numbers.longest_front.Goals as goal

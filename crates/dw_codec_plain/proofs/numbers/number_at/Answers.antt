@@ -1,8 +1,8 @@
-use Rattle.std.proofs.Common.{◌≡◌, ◌≤◌, ◌<◌, ◌-◌, ◌+ℤ◌, ℤ, pos, neg_ℤ, to_z, of_z, arith, subst, ap, ◌∙◌, take, FitsSigned}
+use Rattle.std.proofs.Common.{◌≡◌, ◌≤◌, ◌<◌, ◌-◌, ◌+ℤ◌, ℤ, pos, neg_ℤ, to_z, of_z, arith, ap, ◌∙◌, take}
 use Rattle.std.specs.Int.{w128}
 use Rattle.std.proofs.lemmas.Int.{ints}
-use Rattle.dw_codec_plain.specs.Numbers.{half, natural_of, number}
-use Rattle.dw_codec_plain.proofs.Signed.{IsSized, sized, number_low, number_high, worth_below}
+use Rattle.dw_codec_plain.specs.Numbers.{half, natural_of}
+use Rattle.dw_codec_plain.proofs.Signed.{sized, number_low, number_high, worth_below}
 use Rattle.dw_codec_plain.proofs.numbers.number_at.Goals as goal
 
 pub overflow_cast-result-else-unsigned-half : goal.overflow_cast-result-else-unsigned-half

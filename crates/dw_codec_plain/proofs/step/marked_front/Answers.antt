@@ -1,4 +1,4 @@
-use Rattle.std.proofs.Common.{◌≡◌, ◌≤◌, ◌<◌, ◌+◌, ℤ, List, ℕ, to_z, of_z, arith, sym, ap, ◌∙◌, drop, length, subst}
+use Rattle.std.proofs.Common.{◌≡◌, ◌≤◌, ◌+◌, ℤ, ℕ, to_z, of_z, arith, sym, ap, ◌∙◌, drop, subst}
 use Rattle.std.specs.Int.{w128}
 use Rattle.dw_codec_plain.specs.Numbers.{IsNumberWithin}
 use Rattle.dw_codec_plain.specs.Encodings.{IsMarkedWithin}

@@ -1,9 +1,9 @@
-use Rattle.std.proofs.Common.{◌≡◌, ◌++◌, true, false, ℤ, List, ℕ, to_z, of_z, arith, sym, ap, ◌∙◌, ◌-ℤ◌, FitsSigned, append_assoc}
+use Rattle.std.proofs.Common.{◌≡◌, ◌++◌, true, false, ℤ, List, ℕ, to_z, of_z, sym, ap, ◌∙◌, ◌-ℤ◌, append_assoc}
 use Rattle.std.specs.Int.{w128}
-use Rattle.std.proofs.lemmas.Int.{ints, to_z-of_z}
+use Rattle.std.proofs.lemmas.Int.{to_z-of_z}
 use Rattle.std.proofs.lemmas.Result.{on_ok_weaker}
 use Rattle.dw_codec_plain.specs.Numbers.{number}
-use Rattle.dw_codec_plain.specs.Encodings.{is_short, short_or_full}
+use Rattle.dw_codec_plain.specs.Encodings.{is_short}
 use Rattle.dw_codec_plain.proofs.Forms.{mark, width_of_step, short_fits, mark_fits, form_short, form_full}
 use Rattle.dw_codec_plain.proofs.Signed.{wide, at_bits, from_bits, same_bits}
 use Rattle.dw_codec_plain.proofs.step.push_short_or_full.Goals as goal

@@ -1,4 +1,4 @@
-use Rattle.std.proofs.Common.{ℤ, ◌+ℤ◌, ◌-ℤ◌, to_z, of_z, arith}
+use Rattle.std.proofs.Common.{◌+ℤ◌, to_z, of_z, arith}
 use Rattle.std.specs.Int.{w128}
 use Rattle.std.proofs.lemmas.Int.{ints, clamps}
 use Rattle.dw_codec_plain.proofs.Forms.{le_from_test, gt_from_test}

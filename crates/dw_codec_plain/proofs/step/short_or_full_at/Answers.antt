@@ -1,8 +1,8 @@
-use Rattle.std.proofs.Common.{◌≡◌, ◌≢◌, ◌≤◌, ◌<◌, ◌+◌, ◌++◌, true, false, ℤ, List, ℕ, to_z, of_z, arith, sym, ap, ◌∙◌, ◌-ℤ◌, ◌+ℤ◌, FitsSigned, length, take, drop, subst}
+use Rattle.std.proofs.Common.{◌≡◌, ◌≢◌, ◌+◌, true, false, ℤ, ℕ, to_z, of_z, arith, sym, ap, ◌∙◌, ◌-ℤ◌, ◌+ℤ◌, length, take, drop}
 use Rattle.std.specs.Int.{w128}
-use Rattle.dw_codec_plain.specs.Numbers.{IsWidth, FitsWidth, number}
-use Rattle.dw_codec_plain.specs.Encodings.{is_short, short_or_full, near_item}
-use Rattle.dw_codec_plain.proofs.Forms.{mark, mark_fits, width_of_step, none_short, none_outside, some_short, none_cut, none_near, some_full}
+use Rattle.dw_codec_plain.specs.Numbers.{IsWidth, FitsWidth}
+use Rattle.dw_codec_plain.specs.Encodings.{is_short, short_or_full}
+use Rattle.dw_codec_plain.proofs.Forms.{mark, mark_fits, width_of_step, none_outside, some_short, none_cut, none_near, some_full}
 use Rattle.dw_codec_plain.proofs.Signed.{wide, at_bits, from_bits, same_bits, same_from_bits}
 use Rattle.dw_codec_plain.proofs.step.short_or_full_at.Goals as goal
 

@@ -1,4 +1,4 @@
-use Rattle.std.proofs.Common.{◌≡◌, ℕ, max, ◌⊎◌, ℤ, pos, neg_ℤ, ◌+ℤ◌, ◌-ℤ◌, None, List, to_z, of_z, arith, ap, ◌∙◌, subst, FitsSigned}
+use Rattle.std.proofs.Common.{◌≡◌, ℕ, max, ◌⊎◌, ℤ, pos, neg_ℤ, ◌+ℤ◌, ◌-ℤ◌, None, List, arith, subst, FitsSigned}
 use Rattle.std.specs.Int.{w128, int_max, int_min}
 use Rattle.std.proofs.lemmas.Int.{ints, clamps}
 use Rattle.dw_codec_plain.specs.Numbers.{half, FitsWidth, IsNumberWithin}

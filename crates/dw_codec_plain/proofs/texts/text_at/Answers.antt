@@ -1,7 +1,6 @@
-use Rattle.std.proofs.Common.{◌≡◌, ◌≤◌, ◌<◌, ℕ, None, List, length, take, drop, arith, ap, ◌∙◌, subst, sym}
+use Rattle.std.proofs.Common.{◌≡◌, ◌≤◌, ◌<◌, None, length, take, drop, arith, ap, ◌∙◌, subst, sym}
 use Rattle.dw_codec_plain.specs.Numbers.{natural_of}
 use Rattle.dw_codec_plain.specs.Encodings.{IsText}
-use Rattle.dw_codec_plain.proofs.Naturals.{AreBytes}
 use Rattle.dw_codec_plain.proofs.TextItems.{text_front_short, text_front_cut, text_read}
 use Rattle.dw_codec_plain.proofs.texts.text_at.Goals as goal
 
