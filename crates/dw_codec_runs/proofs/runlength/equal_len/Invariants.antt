@@ -1,0 +1,6 @@
+use Rattle.std.proofs.Common.{◌≡◌, take}
+use Rattle.std.specs.Prelude.{replicate}
+use Rattle.dw_codec_runs.proofs.runlength.equal_len.Given as goal
+
+abbrev pub invariant-loop-len : goal.invariant-loop-len
+invariant-loop-len l = take l.len l.values ≡ replicate l.len l.value
