@@ -15,7 +15,7 @@ use Rattle.dw_model.specs.declared.answers.Plain.{Plain}
 use Rattle.dw_model.specs.declared.answers.Plain.TheVariants.{Done}
 use Rattle.dw_model.specs.declared.refusals.Refusal.{Refusal}
 use Rattle.dw_model.specs.declared.statements.Statement.{Statement}
-use Rattle.dw_model.specs.declared.statements.Statement.TheVariants.{Create, Insert, Select}
+use Rattle.dw_model.specs.declared.statements.Statement.TheVariants.{Begin, Commit, Rollback, Vacuum, Create, Insert, Select}
 use Rattle.dw_model.specs.declared.statements.TableSpec.{TableSpec}
 use Rattle.dw_model.specs.declared.statements.Query.{Query}
 use Rattle.dw_model.specs.declared.tables.Table.{Table}
@@ -110,6 +110,10 @@ commit_selected query tables next answer (Some table) done = cc
 
 pub after_commit-alone : (statement : Statement) (tables next : Tables) (answer : Reply) → alone statement tables ≡ Done answer next
     → after_commit (statement ∷ []) tables tables ≡ next
+after_commit-alone Begin tables next answer done = cc
+after_commit-alone Commit tables next answer done = cc
+after_commit-alone Rollback tables next answer done = cc
+after_commit-alone (Vacuum table) tables next answer done = cc
 after_commit-alone (Create spec) tables next answer done =
     let bound = unless_done _ _ answer next done in
     let absent = create_absent spec _ bound.0 in

@@ -1,3 +1,10 @@
 pub mod StepLemmas
 pub mod Sequential
 pub mod CommitAlone
+pub mod Snapshots
+pub mod Frames
+pub mod Stand
+pub mod EdgeLemmas
+pub mod OneEvent
+pub mod OneStep
+pub mod OneJournal

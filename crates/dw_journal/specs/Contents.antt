@@ -1,5 +1,5 @@
 -- The committed database after each commit, object by object, and what a session sees.
-use Rattle.std.specs.Prelude.{ℕ, ◌-◌, ◌+◌, Bool, false, if◌then◌else◌, List, [], ◌∷◌, ◌++◌, length, slice_get, unwrap_or, Option, Some, None}
+use Rattle.std.specs.Prelude.{ℕ, ◌-◌, ◌+◌, Bool, false, if◌then◌else◌, List, [], ◌∷◌, ◌++◌, length, slice_get, unwrap_or, Option, Some, None, Result}
 use Rattle.std.specs.FinMap as map_of
 use Rattle.dw_value.specs.declared.values.Row.{Row}
 use Rattle.dw_value.specs.Values.{row_cmp}
@@ -11,7 +11,9 @@ use Rattle.dw_model.specs.declared.tables.Table.{Table}
 use Rattle.dw_model.specs.declared.tables.TableDef.{TableDef}
 use Rattle.dw_model.specs.Databases.{Tables, def_of, rows_of}
 use Rattle.dw_model.specs.Objects.{writes_of, is_among}
-use Rattle.dw_model.specs.Alone.{next_of, inserted}
+use Rattle.dw_model.specs.Alone.{next_of, inserted, reply_of}
+use Rattle.dw_model.specs.declared.answers.Answer.{Answer as Reply}
+use Rattle.dw_model.specs.declared.refusals.Refusal.{Refusal}
 use Rattle.dw_journal.specs.declared.Event.{Event}
 use Rattle.dw_journal.specs.History.{Scripts}
 use Rattle.dw_journal.specs.Transactions.{Transaction, transaction_of, Committed, committed, statements_in, reads_in, writes_in}
@@ -20,6 +22,11 @@ use Rattle.dw_journal.specs.Transactions.{Transaction, transaction_of, Committed
 abbrev pub view_after : Tables → List Statement → Tables
 view_after tables [] = tables
 view_after tables (statement ∷ later) = view_after (next_of statement tables) later
+
+-- what these statements reply, each run alone on what the one before left
+abbrev pub replies_of : List Statement → Tables → List (Result Reply Refusal)
+replies_of [] tables = []
+replies_of (statement ∷ later) tables = reply_of statement tables ∷ replies_of later (next_of statement tables)
 
 -- the rows that these statements insert into a table
 abbrev pub inserted_by : List Statement → Tables → List ℕ → List Row

@@ -1,36 +1,74 @@
 -- Journals that arise from a schedule.
-use Rattle.std.specs.Prelude.{◌≡◌, ℕ, zero, suc, true, List, [], ◌∷◌, ◌++◌, length, reverse}
+use Rattle.std.specs.Prelude.{◌≡◌, ℕ, zero, suc, ◌<◌, Bool, true, false, ◌⊎◌, List, [], ◌∷◌, ◌++◌, length, reverse, Some}
 use Rattle.dw_journal.specs.declared.Event.{Event}
+use Rattle.dw_journal.specs.declared.Event.TheVariants.{Wait, Refuse, Refresh}
 use Rattle.dw_journal.specs.declared.Journal.{Journal}
-use Rattle.dw_journal.specs.History.{Scripts, IsSession, session_of, has_ended, history}
-use Rattle.dw_journal.specs.Legal.{FollowsAfter, IsLegalAfter}
+use Rattle.dw_journal.specs.declared.Shape.{Shape}
+use Rattle.dw_journal.specs.History.{Scripts, IsSession, session_of, last_of, has_ended, history}
+use Rattle.dw_journal.specs.Blocks.{is_memory}
+use Rattle.dw_journal.specs.Follows.{FollowsAfter}
+use Rattle.dw_journal.specs.Legal.{IsWait, IsLegalAfter}
 
--- A step of a session leads from these events to those, newest first: nothing happens where the session has ended;
--- else one event of the session comes that follows and is legal.
-pub data Step (scripts : Scripts) : ℕ → List Event → List Event → Type 0 where
-  nothing : {session : ℕ} {events : List Event} → has_ended session events ≡ true → Step scripts session events events
-  event : {session : ℕ} {older : List Event} (next : Event) → session_of next ≡ session
-      → FollowsAfter scripts older next → IsLegalAfter scripts older next → Step scripts session older (next ∷ older)
+-- what a schedule's step moves
+pub data Move : Type 0 where
+  -- a session
+  OfSession : ℕ → Move
+  -- a scaling cluster, which is refreshed
+  OfCluster : ℕ → Move
 
--- Steps of these sessions, the latest first, lead from no event to these events, newest first.
-pub data Steps (scripts : Scripts) : List ℕ → List Event → Type 0 where
-  none : Steps scripts [] []
-  more : {session : ℕ} {earlier : List ℕ} {older newer : List Event}
-      → Steps scripts earlier older → Step scripts session older newer → Steps scripts (session ∷ earlier) newer
+-- a session would repeat the wait that is its newest event: the same wait is due again
+pub record RepeatsWait (shape : Shape) (scripts : Scripts) (events : List Event) (session : ℕ) : Type 0 where
+  pub statement : ℕ
+  pub holders : List ℕ
+  pub newest : last_of session events ≡ Some (Wait session statement holders)
+  pub follows : FollowsAfter shape scripts events (Wait session statement holders)
+  pub waits : IsWait shape scripts events session statement holders
+
+-- A step leads from these events to those, newest first. A session whose script is at its end, or which would repeat its
+-- wait, does nothing; else one event of the session comes that follows and is legal. A cluster is refreshed.
+pub data Step (shape : Shape) (scripts : Scripts) : Move → List Event → List Event → Type 0 where
+  nothing : {session : ℕ} {events : List Event} → (has_ended session events ≡ true) ⊎ RepeatsWait shape scripts events session
+      → Step shape scripts (OfSession session) events events
+  event : {session : ℕ} {older : List Event} (next : Event) → session_of next ≡ Some session
+      → FollowsAfter shape scripts older next → IsLegalAfter shape scripts older next
+      → Step shape scripts (OfSession session) older (next ∷ older)
+  refresh : {cluster : ℕ} {older : List Event} (stamp : ℕ) → IsLegalAfter shape scripts older (Refresh cluster stamp)
+      → Step shape scripts (OfCluster cluster) older (Refresh cluster stamp ∷ older)
+
+-- Steps by these moves, the latest first, lead from no event to these events, newest first.
+pub data Steps (shape : Shape) (scripts : Scripts) : List Move → List Event → Type 0 where
+  none : Steps shape scripts [] []
+  more : {move : Move} {earlier : List Move} {older newer : List Event}
+      → Steps shape scripts earlier older → Step shape scripts move older newer → Steps shape scripts (move ∷ earlier) newer
+
+-- no event of these is a refusal for want of memory
+abbrev pub is_memory_refusal : Event → Bool
+is_memory_refusal (Refuse session statement refusal) = is_memory refusal
+is_memory_refusal other = false
+
+abbrev pub WithoutMemory : List Event → Type 0
+WithoutMemory [] = Unit {0}
+WithoutMemory (newest ∷ older) = (is_memory_refusal newest ≡ false) × WithoutMemory older
+
+-- these moves are of sessions with a script, or of clusters
+abbrev pub AreOfSessions : List Move → Type 0
+AreOfSessions [] = Unit {0}
+AreOfSessions (OfSession session ∷ moves) = (0 < session) × AreOfSessions moves
+AreOfSessions (OfCluster cluster ∷ moves) = AreOfSessions moves
 
 -- the sessions n, .., 2, 1: one round of turns, the latest first
-abbrev pub round_of : ℕ → List ℕ
+abbrev pub round_of : ℕ → List Move
 round_of zero = []
-round_of (suc n) = suc n ∷ round_of n
+round_of (suc n) = OfSession (suc n) ∷ round_of n
 
 -- so many rounds, the latest first
-abbrev pub rounds_of : ℕ → ℕ → List ℕ
+abbrev pub rounds_of : ℕ → ℕ → List Move
 rounds_of n zero = []
 rounds_of n (suc count) = round_of n ++ rounds_of n count
 
--- The journal arises from the moves, which name a session for each step, in their order; past the last move the
--- sessions take one step each in turn, in ascending number, until all have ended.
-pub record IsDriven (scripts : Scripts) (moves : List ℕ) (journal : Journal) : Type 0 where
+-- The journal arises from the moves in their order; past the last move the sessions take one step each in turn, in
+-- ascending number, until all have ended.
+pub record IsDriven (scripts : Scripts) (moves : List Move) (journal : Journal) : Type 0 where
   pub rounds : ℕ
-  pub steps : Steps scripts (rounds_of (length scripts) rounds ++ reverse moves) (history journal)
+  pub steps : Steps journal.shape scripts (rounds_of (length scripts) rounds ++ reverse moves) (history journal)
   pub ends : (session : ℕ) → IsSession scripts session → has_ended session (history journal) ≡ true

@@ -1,7 +1,15 @@
 pub mod History
+pub mod Blocks
 pub mod Transactions
 pub mod Contents
+pub mod Vacuums
 pub mod Watermarks
+pub mod Edges
+pub mod Locks
+pub mod Routes
+pub mod Turns
+pub mod Follows
 pub mod Legal
 pub mod Serial
 pub mod Driven
+pub mod Examples

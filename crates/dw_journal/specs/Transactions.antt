@@ -1,13 +1,13 @@
 -- Transactions: what a session does between its first opened statement and its commit.
-use Rattle.std.specs.Prelude.{ℕ, ◌==◌, if◌then◌else◌, List, [], ◌∷◌, map, flat_map, reverse, length, Option, Some, None}
-use Rattle.std.specs.List.{filter_map}
+use Rattle.std.specs.Prelude.{ℕ, min, if◌then◌else◌, List, [], ◌∷◌, map, flat_map, reverse, length, Option, Some, None, option_map, unwrap_or}
+use Rattle.std.specs.List.{filter_map, fold, range_with_len}
 use Rattle.dw_model.specs.declared.answers.Answer.{Answer as Reply}
 use Rattle.dw_model.specs.declared.statements.Statement.{Statement}
 use Rattle.dw_model.specs.declared.tables.Object.{Object}
 use Rattle.dw_model.specs.Objects.{reads_of, writes_of}
 use Rattle.dw_journal.specs.declared.Event.{Event}
-use Rattle.dw_journal.specs.declared.Event.TheVariants.{Opened, Answer, Commit, Refuse, End}
-use Rattle.dw_journal.specs.History.{Scripts, statement_at, session_of}
+use Rattle.dw_journal.specs.declared.Event.TheVariants.{Begin, Pass, Wait, Opened, Answer, Commit, Violation, Refuse, Rollback, VacuumBegin, VacuumSlice, VacuumEnd, Refresh, End}
+use Rattle.dw_journal.specs.History.{Scripts, statement_at, is_of}
 
 -- a transaction: the number of commits that it sees, and its answered statements with their answers, the latest first
 pub record Transaction : Type 0 where
@@ -27,18 +27,56 @@ answered_in statement answer (Some transaction) =
 
 -- what an event of its session makes of a transaction
 abbrev pub transaction_after : Event → Option Transaction → Option Transaction
+transaction_after (Begin session statement) before = before
+transaction_after (Pass session statement word) before = before
+transaction_after (Wait session statement holders) before = before
 transaction_after (Opened session statement snapshot route) before = opened_in snapshot before
 transaction_after (Answer session statement answer) before = answered_in statement answer before
 transaction_after (Commit session statement stamp low high) before = None
+transaction_after (Violation session statement low high object) before = None
 transaction_after (Refuse session statement refusal) before = None
+transaction_after (Rollback session statement) before = None
+transaction_after (VacuumBegin session statement table) before = before
+transaction_after (VacuumSlice session statement slice horizon) before = before
+transaction_after (VacuumEnd session statement) before = before
+transaction_after (Refresh cluster stamp) before = before
 transaction_after (End session) before = None
 
 -- the session's open transaction: it begins at the first statement that is opened since the last one ended, and ends at
--- its commit, at any refusal, and at the script's end
+-- a commit, a violation, any refusal, a rollback, and the script's end
 abbrev pub transaction_of : ℕ → List Event → Option Transaction
 transaction_of session [] = None
 transaction_of session (event ∷ older) =
-    if session_of event == session then transaction_after event (transaction_of session older) else transaction_of session older
+    if is_of session event then transaction_after event (transaction_of session older) else transaction_of session older
+
+-- the statements that were opened in a session's open transaction, the latest first
+abbrev pub opened_after : Event → List ℕ → List ℕ
+opened_after (Begin session statement) before = before
+opened_after (Pass session statement word) before = before
+opened_after (Wait session statement holders) before = before
+opened_after (Opened session statement snapshot route) before = statement ∷ before
+opened_after (Answer session statement answer) before = before
+opened_after (Commit session statement stamp low high) before = []
+opened_after (Violation session statement low high object) before = []
+opened_after (Refuse session statement refusal) before = []
+opened_after (Rollback session statement) before = []
+opened_after (VacuumBegin session statement table) before = before
+opened_after (VacuumSlice session statement slice horizon) before = before
+opened_after (VacuumEnd session statement) before = before
+opened_after (Refresh cluster stamp) before = before
+opened_after (End session) before = []
+
+abbrev pub opened_statements : ℕ → List Event → List ℕ
+opened_statements session [] = []
+opened_statements session (event ∷ older) =
+    if is_of session event then opened_after event (opened_statements session older) else opened_statements session older
+
+-- the snapshot of a session's open transaction, if one is open
+abbrev pub snapshot_in : Option Transaction → Option ℕ
+snapshot_in transaction = option_map (λ transaction. transaction.snapshot) transaction
+
+abbrev pub snapshot_of : ℕ → List Event → Option ℕ
+snapshot_of session events = snapshot_in (transaction_of session events)
 
 -- a committed transaction; its stamp is its place among the commits, from 1
 pub record Committed : Type 0 where
@@ -57,16 +95,42 @@ committed_as session stamp low (Some transaction) =
 -- the committed transactions, newest first
 abbrev pub committed : List Event → List Committed
 committed [] = []
-committed (Commit session statement stamp low high ∷ older) =
-    committed_as session stamp low (transaction_of session older) ∷ committed older
+committed (Begin session statement ∷ older) = committed older
+committed (Pass session statement word ∷ older) = committed older
+committed (Wait session statement holders ∷ older) = committed older
 committed (Opened session statement snapshot route ∷ older) = committed older
 committed (Answer session statement answer ∷ older) = committed older
+committed (Commit session statement stamp low high ∷ older) =
+    committed_as session stamp low (transaction_of session older) ∷ committed older
+committed (Violation session statement low high object ∷ older) = committed older
 committed (Refuse session statement refusal ∷ older) = committed older
+committed (Rollback session statement ∷ older) = committed older
+committed (VacuumBegin session statement table ∷ older) = committed older
+committed (VacuumSlice session statement slice horizon ∷ older) = committed older
+committed (VacuumEnd session statement ∷ older) = committed older
+committed (Refresh cluster stamp ∷ older) = committed older
 committed (End session ∷ older) = committed older
 
 -- how many transactions were committed
 abbrev pub commits : List Event → ℕ
 commits events = length (committed events)
+
+-- the least number so far, with one more
+abbrev pub least_with : Option ℕ → ℕ → Option ℕ
+least_with None number = Some number
+least_with (Some least) number = Some (min least number)
+
+-- the least of these numbers, if there is one
+abbrev pub least_of : List ℕ → Option ℕ
+least_of numbers = fold least_with None numbers
+
+-- the snapshots of the open transactions of these many sessions
+abbrev pub open_snapshots : ℕ → List Event → List ℕ
+open_snapshots sessions events = filter_map (λ session. snapshot_of session events) (range_with_len 1 sessions)
+
+-- the horizon: the least snapshot of an open transaction, or all commits where none is open
+abbrev pub horizon : ℕ → List Event → ℕ
+horizon sessions events = unwrap_or (least_of (open_snapshots sessions events)) (commits events)
 
 -- a statement of a session with its answer, where the script has that statement
 abbrev pub statement_with : Option Statement → Reply → Option (Statement × Reply)

@@ -5,12 +5,19 @@
 #![tactic(auto)]
 
 mod laws;
+mod locks;
+mod transactions;
 
 ghost use Rattle.std.specs.Prelude.{◌≡◌};
 
-use dw_model::{Answer, Object, Refusal, Statement};
-use dw_value::List;
-pub use laws::driven_is_legal;
+use dw_model::{Answer, Object, Refusal, Statement, Word};
+use dw_value::{List, Text};
+pub use laws::{
+    contents_stand, driven_is_legal, edges_rise, one_driven_journal, transactions_have_a_frame,
+    worked_examples,
+};
+pub use locks::{Mode, Want};
+pub use transactions::{commits, horizon, snapshot_of};
 
 /// How large a warehouse is, and how many sessions it serves.
 #[derive(Clone, Copy, Debug, PartialEq, Eq)]
@@ -59,12 +66,31 @@ pub type Scripts = List<List<Given>>;
 pub enum Route {
     /// On the warehouse's own nodes.
     Main,
+    /// On the scaling cluster of this number, from 1.
+    Cluster(u32),
 }
 
-/// One event of a journal. Sessions and statements are numbered from 1. Stamps are the places of committed transactions,
-/// from 1.
+/// One event of a journal. Sessions, statements and clusters are numbered from 1, slices from 0. Stamps are the places of
+/// committed transactions, from 1. Session 0 is the background worker, whose statement is 0.
 #[derive(Debug, Drop)]
 pub enum Event {
+    /// BEGIN: a block of statements begins.
+    Begin {
+        session: u32,
+        statement: u32,
+    },
+    /// A BEGIN, COMMIT or ROLLBACK that has nothing to do.
+    Pass {
+        session: u32,
+        statement: u32,
+        word: Word,
+    },
+    /// The statement waits for these sessions, in ascending number.
+    Wait {
+        session: u32,
+        statement: u32,
+        holders: List<u32>,
+    },
     /// The statement is opened: its names are found in what the session sees, which is what was committed up to
     /// `snapshot`, with the changes of its own transaction.
     Opened {
@@ -87,11 +113,48 @@ pub enum Event {
         low: u64,
         high: u64,
     },
+    /// The session's transaction can't be committed, since its low watermark is at most its high one. `object` is one that
+    /// it read and that a transaction of that low watermark wrote behind its snapshot: the least one.
+    Violation {
+        session: u32,
+        statement: u32,
+        low: u64,
+        high: u64,
+        object: Object,
+    },
     /// The statement is refused.
     Refuse {
         session: u32,
         statement: u32,
         refusal: Refusal,
+    },
+    /// The session's block ends without a trace.
+    Rollback {
+        session: u32,
+        statement: u32,
+    },
+    /// A vacuum of this table begins.
+    VacuumBegin {
+        session: u32,
+        statement: u32,
+        table: Text,
+    },
+    /// The vacuum has rebuilt this slice, without the rows that were deleted at or before the horizon.
+    VacuumSlice {
+        session: u32,
+        statement: u32,
+        slice: u32,
+        horizon: u64,
+    },
+    /// The vacuum has rebuilt all slices.
+    VacuumEnd {
+        session: u32,
+        statement: u32,
+    },
+    /// The scaling cluster now serves what was committed up to this stamp.
+    Refresh {
+        cluster: u32,
+        stamp: u64,
     },
     /// The session's script is at its end.
     End {
@@ -102,16 +165,25 @@ pub enum Event {
 impl Event {
     ghost use Rattle.dw_journal.specs.History.{session_of};
 
-    /// The session that the event is of.
-    pub fn session(&self) -> u32
+    /// The session that the event is of. A `Refresh` is of none.
+    pub fn session(&self) -> Option<u32>
         ensures { result ≡ session_of self.now }
     {
         match self {
-            Event::Opened { session, .. }
+            Event::Begin { session, .. }
+            | Event::Pass { session, .. }
+            | Event::Wait { session, .. }
+            | Event::Opened { session, .. }
             | Event::Answer { session, .. }
             | Event::Commit { session, .. }
+            | Event::Violation { session, .. }
             | Event::Refuse { session, .. }
-            | Event::End { session } => *session,
+            | Event::Rollback { session, .. }
+            | Event::VacuumBegin { session, .. }
+            | Event::VacuumSlice { session, .. }
+            | Event::VacuumEnd { session, .. }
+            | Event::End { session } => Some(*session),
+            Event::Refresh { .. } => None,
         }
     }
 }

@@ -21,10 +21,9 @@ pub fn bound_refusal(
     ensures { IfOk result (λ refusal. refusal ≡ bound_refusal statement.now database.now) }
 {
     match statement {
-        Statement::Begin
-        | Statement::Commit
-        | Statement::Rollback
-        | Statement::Vacuum { .. } => Ok(None),
+        Statement::Begin | Statement::Commit | Statement::Rollback | Statement::Vacuum { .. } => Ok(
+            None,
+        ),
         Statement::Create { spec } => create_refusal(spec, database),
         Statement::Insert { table, rows } => insert_refusal(table, rows, database),
         Statement::Select { query } => query_refusal(query, database),

@@ -23,10 +23,9 @@ pub fn plain_run(
         return Ok(Plain::Refused(refusal));
     }
     match statement {
-        Statement::Begin
-        | Statement::Commit
-        | Statement::Rollback
-        | Statement::Vacuum { .. } => Ok(Plain::Refused(Refusal::Syntax { place: 0 })),
+        Statement::Begin | Statement::Commit | Statement::Rollback | Statement::Vacuum { .. } => Ok(
+            Plain::Refused(Refusal::Syntax { place: 0 }),
+        ),
         Statement::Create { spec } => create(alloc, spec, database),
         Statement::Insert { table, rows } => insert(alloc, table, rows, database),
         Statement::Select { query } => select(alloc, query, database),

@@ -1,0 +1,215 @@
+-- Of the events that are due of a session, just one is legal, but for want of memory.
+use Rattle.std.proofs.Common.{inl, inr, ◌≡◌, ◌≢◌, ℕ, zero, suc, ◌+◌, ◌<◌, ◌≤◌, Bool, true, false, List, [], ◌∷◌, length, refl, sym, ap, subst, ◌∙◌, arith}
+use Rattle.std.specs.Prelude.{Option, Some, None, ◌⊎◌, if◌then◌else◌, nat_lt}
+use Rattle.dw_model.specs.declared.answers.Answer.{Answer as Reply}
+use Rattle.dw_model.specs.declared.answers.Plain.{Plain}
+use Rattle.dw_model.specs.declared.answers.Plain.TheVariants.{Done}
+use Rattle.dw_model.specs.declared.refusals.Refusal.{Refusal}
+use Rattle.dw_model.specs.declared.refusals.Refusal.TheVariants.{Memory}
+use Rattle.dw_model.specs.declared.statements.Statement.{Statement}
+use Rattle.dw_model.specs.declared.statements.Statement.TheVariants as forms
+use Rattle.dw_model.specs.Databases.{Tables}
+use Rattle.dw_model.specs.Binding.{bound_refusal}
+use Rattle.dw_model.specs.Alone.{alone}
+use Rattle.dw_model.specs.Limits.{limit_refusal}
+use Rattle.dw_journal.specs.declared.Event.{Event}
+use Rattle.dw_journal.specs.declared.Event.TheVariants.{Begin, Pass, Wait, Opened, Answer, Commit, Violation, Refuse, Rollback, VacuumBegin, VacuumSlice, VacuumEnd, Refresh, End}
+use Rattle.dw_journal.specs.declared.Given.{Given}
+use Rattle.dw_journal.specs.declared.Given.TheVariants.{Read, Refused}
+use Rattle.dw_journal.specs.declared.Shape.{Shape}
+use Rattle.dw_journal.specs.History.{Scripts, given_at, read_in, statement_at, session_of, last_of, taken}
+use Rattle.dw_journal.specs.Blocks.{Block, Outside, Within, Aborted, block_of, is_memory}
+use Rattle.dw_journal.specs.Transactions.{Transaction, transaction_of}
+use Rattle.dw_journal.specs.Contents.{view, contents}
+use Rattle.dw_journal.specs.Vacuums.{sweeper, slices_in}
+use Rattle.dw_journal.specs.Locks.{wants_of, wants_in, blockers, sweep_lock}
+use Rattle.dw_journal.specs.Turns.{Call, IsForeign, Begins, Commits, RollsBack, Sweeps, Works, call_of, Turn, AnswerOf, CommitOf, SliceOf, SweepEndOf, Taking, AtEnd, Idle, Nothing, turn_of, turn_after, answered_turn, sweeping, taking, next_turn}
+use Rattle.dw_journal.specs.Follows.{IsAnswer, is_answer, is_answer_refused, IsDecision, is_commit, is_violation, is_commit_refused, IsOpening, is_wait, is_opening_refused, is_opened, IsSweepOpening, is_sweep_wait, is_sweep_refused, is_sweep_begin, IsTaken, foreign, begin_outside, begin_within, begin_aborted, commit_outside, commit_of_nothing, commit_within, commit_aborted, rollback_outside, rollback_within, rollback_aborted, vacuum_outside, vacuum_within, vacuum_aborted, work_outside, work_within, work_aborted, IsDue, answers, decides, rebuilds, has_rebuilt, takes, ends, sweeps, FollowsAfter, due, refreshes}
+use Rattle.dw_journal.specs.Legal.{IsLegalAfter, IsWait, IsWaitOf, IsLockWait, IsLegalAnswer, IsLegalOpened, IsLegalCommit, IsLegalViolation, IsLegalSweep, IsRefusal, IsTakingRefusal, IsCommitRefusal, IsWorkRefusal, blockers_of, cycle_of, opening_refusal, unless_blocked, sweep_refusal, table_refusal, work_refusal}
+use Rattle.dw_journal.specs.Driven.{is_memory_refusal}
+
+-- what is due of a session is an event of it
+pub due_session : {session : ℕ} {block : Block} {transaction : Option Transaction} {turn : Turn} {event : Event}
+    → IsDue session block transaction turn event → session_of event ≡ Some session
+due_session (answers (is_answer answer)) = refl
+due_session (answers (is_answer_refused refusal)) = refl
+due_session (decides (is_commit stamp low high)) = refl
+due_session (decides (is_violation low high object)) = refl
+due_session (decides (is_commit_refused refusal)) = refl
+due_session rebuilds = refl
+due_session has_rebuilt = refl
+due_session (takes foreign) = refl
+due_session (takes begin_outside) = refl
+due_session (takes begin_within) = refl
+due_session (takes begin_aborted) = refl
+due_session (takes commit_outside) = refl
+due_session (takes commit_of_nothing) = refl
+due_session (takes (commit_within (is_commit stamp low high))) = refl
+due_session (takes (commit_within (is_violation low high object))) = refl
+due_session (takes (commit_within (is_commit_refused refusal))) = refl
+due_session (takes commit_aborted) = refl
+due_session (takes rollback_outside) = refl
+due_session (takes rollback_within) = refl
+due_session (takes rollback_aborted) = refl
+due_session (takes (vacuum_outside (is_sweep_wait holders))) = refl
+due_session (takes (vacuum_outside (is_sweep_refused refusal))) = refl
+due_session (takes (vacuum_outside is_sweep_begin)) = refl
+due_session (takes vacuum_within) = refl
+due_session (takes vacuum_aborted) = refl
+due_session (takes (work_outside (is_wait holders))) = refl
+due_session (takes (work_outside (is_opening_refused refusal))) = refl
+due_session (takes (work_outside (is_opened snapshot route))) = refl
+due_session (takes (work_within (is_wait holders))) = refl
+due_session (takes (work_within (is_opening_refused refusal))) = refl
+due_session (takes (work_within (is_opened snapshot route))) = refl
+due_session (takes work_aborted) = refl
+due_session ends = refl
+due_session sweeps = refl
+
+-- legal but for the rule that a wait isn't repeated
+abbrev pub IsLegalBut : Shape → Scripts → List Event → Event → Type 0
+IsLegalBut shape scripts older (Wait session statement holders) = IsWait shape scripts older session statement holders
+IsLegalBut shape scripts older event = IsLegalAfter shape scripts older event
+
+pub legal_but : (shape : Shape) (scripts : Scripts) (older : List Event) (event : Event)
+    → IsLegalAfter shape scripts older event → IsLegalBut shape scripts older event
+legal_but shape scripts older (Begin session statement) legal = legal
+legal_but shape scripts older (Pass session statement word) legal = legal
+legal_but shape scripts older (Wait session statement holders) legal = legal.0
+legal_but shape scripts older (Opened session statement snapshot route) legal = legal
+legal_but shape scripts older (Answer session statement answer) legal = legal
+legal_but shape scripts older (Commit session statement stamp low high) legal = legal
+legal_but shape scripts older (Violation session statement low high object) legal = legal
+legal_but shape scripts older (Refuse session statement refusal) legal = legal
+legal_but shape scripts older (Rollback session statement) legal = legal
+legal_but shape scripts older (VacuumBegin session statement table) legal = legal
+legal_but shape scripts older (VacuumSlice session statement slice horizon) legal = legal
+legal_but shape scripts older (VacuumEnd session statement) legal = legal
+legal_but shape scripts older (Refresh cluster stamp) legal = legal
+legal_but shape scripts older (End session) legal = legal
+
+-- two answers of a statement are the same, and an answered statement isn't refused
+same_done : (a b : Reply) (m n : Tables) → ◌≡◌ {A = Plain} (Done a m) (Done b n) → a ≡ b
+same_done a b m n e = cc
+
+pub same_answer : (statement : Option Statement) (tables : Tables) (a b : Reply) → IsLegalAnswer statement tables a → IsLegalAnswer statement tables b → a ≡ b
+same_answer None tables a b first second = absurd first
+same_answer (Some statement) tables a b first second = same_done a b first.0 second.0 (sym first.1 ∙ second.1)
+
+pub same_refusal : (found : Option Refusal) (a b : Refusal) → found ≡ Some a → found ≡ Some b → a ≡ b
+same_refusal found a b first second = cc
+
+pub not_memory : (refusal : Refusal) → refusal ≡ Memory → is_memory refusal ≡ false → ⊥
+not_memory refusal is none = cc (ap is_memory is, none)
+
+pub work_refused : (statement : Option Statement) (tables : Tables) (refusal : Refusal) → (refusal ≡ Memory) ⊎ IsWorkRefusal statement tables refusal
+    → is_memory refusal ≡ false → IsWorkRefusal statement tables refusal
+work_refused statement tables refusal (inl is) none = absurd (not_memory refusal is none)
+work_refused statement tables refusal (inr is) none = is
+
+pub same_work_refusal : (statement : Option Statement) (tables : Tables) (a b : Refusal) → IsWorkRefusal statement tables a → IsWorkRefusal statement tables b → a ≡ b
+same_work_refusal None tables a b first second = absurd first
+same_work_refusal (Some statement) tables a b first second = same_refusal _ a b first second
+
+pub answered_refused : (statement : Option Statement) (tables : Tables) (answer : Reply) (refusal : Refusal) → IsLegalAnswer statement tables answer
+    → IsWorkRefusal statement tables refusal → ⊥
+answered_refused None tables answer refusal is refused = is
+answered_refused (Some statement) tables answer refusal is refused =
+    let same : limit_refusal statement is.0 ≡ Some refusal = sym (ap (work_refusal statement) is.1) ∙ refused in
+    cc (same, is.2)
+
+-- a wait has holders, so that nothing that needs none is legal
+pub blocked : (found : List ℕ) (holders : List ℕ) → holders ≡ found → 0 < length holders → found ≡ [] → ⊥
+blocked found holders is some none =
+    let same : holders ≡ [] = is ∙ none in
+    let e : length holders ≡ 0 = ap length same in
+    omega (arith, e, some)
+
+pub waiting_refused : (found : List ℕ) (cycle : Option (List ℕ)) (otherwise : Option Refusal) (holders : List ℕ) (refusal : Refusal)
+    → holders ≡ found → 0 < length holders → cycle ≡ None → unless_blocked found cycle otherwise ≡ Some refusal → ⊥
+waiting_refused [] cycle otherwise holders refusal is some no_cycle due_refusal = blocked [] holders is some refl
+waiting_refused (holder ∷ found) None otherwise holders refusal is some no_cycle due_refusal = cc
+waiting_refused (holder ∷ found) (Some cycle) otherwise holders refusal is some no_cycle due_refusal = cc
+
+-- a turn to take a statement is that of the script
+taking_given : (k j : ℕ) (given : Option Given) (call : Call) → taking k given ≡ Taking j call
+    → (g : Given) × (k ≡ j) × (given ≡ Some g) × (call_of g ≡ call)
+taking_given k j None call is = cc
+taking_given k j (Some given) call is = (given, cc, refl, cc)
+
+sweeping_not : (shape : Shape) (k slice j : ℕ) (call : Call) (b : Bool) → (if b then SliceOf k slice else SweepEndOf k) ≡ Taking j call → ⊥
+sweeping_not shape k slice j call true is = cc
+sweeping_not shape k slice j call false is = cc
+
+-- so is each turn to take a statement
+pub turn_given : (shape : Shape) (block : Block) (last : Option Event) (k j : ℕ) (given : Option Given) (call : Call)
+    → turn_after shape block last (taking k given) ≡ Taking j call → (g : Given) × (k ≡ j) × (given ≡ Some g) × (call_of g ≡ call)
+turn_given shape block None k j given call is = taking_given k j given call is
+turn_given shape block (Some (Begin session statement)) k j given call is = taking_given k j given call is
+turn_given shape block (Some (Pass session statement word)) k j given call is = taking_given k j given call is
+turn_given shape block (Some (Wait session statement holders)) k j given call is = taking_given k j given call is
+turn_given shape block (Some (Opened session statement snapshot route)) k j given call is = cc
+turn_given shape Outside (Some (Answer session statement answer)) k j given call is = cc
+turn_given shape Within (Some (Answer session statement answer)) k j given call is = taking_given k j given call is
+turn_given shape Aborted (Some (Answer session statement answer)) k j given call is = taking_given k j given call is
+turn_given shape block (Some (Commit session statement stamp low high)) k j given call is = taking_given k j given call is
+turn_given shape block (Some (Violation session statement low high object)) k j given call is = taking_given k j given call is
+turn_given shape block (Some (Refuse session statement refusal)) k j given call is = taking_given k j given call is
+turn_given shape block (Some (Rollback session statement)) k j given call is = taking_given k j given call is
+turn_given shape block (Some (VacuumBegin session statement table)) k j given call is = absurd (sweeping_not shape statement 0 j call _ is)
+turn_given shape block (Some (VacuumSlice session statement slice horizon)) k j given call is = absurd (sweeping_not shape statement (slice + 1) j call _ is)
+turn_given shape block (Some (VacuumEnd session statement)) k j given call is = taking_given k j given call is
+turn_given shape block (Some (Refresh cluster stamp)) k j given call is = taking_given k j given call is
+turn_given shape block (Some (End session)) k j given call is = cc
+
+taking_busy : (k : ℕ) (given : Option Given) → taking k given ≡ Idle → ⊥
+taking_busy k None is = cc
+taking_busy k (Some given) is = cc
+
+sweeping_busy : (k slice : ℕ) (b : Bool) → (if b then SliceOf k slice else SweepEndOf k) ≡ Idle → ⊥
+sweeping_busy k slice true is = cc
+sweeping_busy k slice false is = cc
+
+-- a session with a script is never idle
+pub turn_busy : (shape : Shape) (block : Block) (last : Option Event) (k : ℕ) (given : Option Given)
+    → turn_after shape block last (taking k given) ≡ Idle → ⊥
+turn_busy shape block None k given is = taking_busy k given is
+turn_busy shape block (Some (Begin session statement)) k given is = taking_busy k given is
+turn_busy shape block (Some (Pass session statement word)) k given is = taking_busy k given is
+turn_busy shape block (Some (Wait session statement holders)) k given is = taking_busy k given is
+turn_busy shape block (Some (Opened session statement snapshot route)) k given is = cc
+turn_busy shape Outside (Some (Answer session statement answer)) k given is = cc
+turn_busy shape Within (Some (Answer session statement answer)) k given is = taking_busy k given is
+turn_busy shape Aborted (Some (Answer session statement answer)) k given is = taking_busy k given is
+turn_busy shape block (Some (Commit session statement stamp low high)) k given is = taking_busy k given is
+turn_busy shape block (Some (Violation session statement low high object)) k given is = taking_busy k given is
+turn_busy shape block (Some (Refuse session statement refusal)) k given is = taking_busy k given is
+turn_busy shape block (Some (Rollback session statement)) k given is = taking_busy k given is
+turn_busy shape block (Some (VacuumBegin session statement table)) k given is = sweeping_busy statement 0 _ is
+turn_busy shape block (Some (VacuumSlice session statement slice horizon)) k given is = sweeping_busy statement (slice + 1) _ is
+turn_busy shape block (Some (VacuumEnd session statement)) k given is = taking_busy k given is
+turn_busy shape block (Some (Refresh cluster stamp)) k given is = taking_busy k given is
+turn_busy shape block (Some (End session)) k given is = cc
+
+-- the statement that a call works on, and the one that a VACUUM is
+pub works_statement : (given : Given) (statement : Statement) → call_of given ≡ Works statement → read_in (Some given) ≡ Some statement
+works_statement (Refused refusal) statement is = cc
+works_statement (Read forms.Begin) statement is = cc
+works_statement (Read forms.Commit) statement is = cc
+works_statement (Read forms.Rollback) statement is = cc
+works_statement (Read (forms.Vacuum table)) statement is = cc
+works_statement (Read (forms.Create spec)) statement is = cc
+works_statement (Read (forms.Insert table rows)) statement is = cc
+works_statement (Read (forms.Select query)) statement is = cc
+
+pub sweeps_wants : (given : Given) (table : List ℕ) → call_of given ≡ Sweeps table → wants_in (read_in (Some given)) ≡ sweep_lock table ∷ []
+sweeps_wants (Refused refusal) table is = cc
+sweeps_wants (Read forms.Begin) table is = cc
+sweeps_wants (Read forms.Commit) table is = cc
+sweeps_wants (Read forms.Rollback) table is = cc
+sweeps_wants (Read (forms.Vacuum other)) table is =
+    let same : other ≡ table = cc in
+    ap (λ (name : List ℕ). sweep_lock name ∷ []) same
+sweeps_wants (Read (forms.Create spec)) table is = cc
+sweeps_wants (Read (forms.Insert other rows)) table is = cc
+sweeps_wants (Read (forms.Select query)) table is = cc
