@@ -5,7 +5,7 @@ use Rattle.dw_value.specs.declared.values.Field.{Field}
 use Rattle.dw_value.specs.declared.values.Field.TheVariants.{Null, Shown}
 use Rattle.dw_value.specs.Values.{shown}
 use Rattle.dw_model.specs.declared.refusals.Refusal.{Refusal}
-use Rattle.dw_model.specs.declared.refusals.Refusal.TheVariants.{Syntax, Unknown, Exists, Clash, Range, Memory}
+use Rattle.dw_model.specs.declared.refusals.Refusal.TheVariants.{Syntax, Unknown, Exists, Clash, Range, Deadlock, Aborted, InBlock, Vacuuming, Limit, Memory}
 
 -- A byte of a field. Four are printed as two: a backslash (92), a bar (124), a line feed (10), a carriage return (13).
 abbrev pub escape : ℕ → List ℕ
@@ -34,6 +34,13 @@ text_after false (byte ∷ rest) = if byte == 92 then text_after true rest else 
 abbrev pub text_of_field : List ℕ → List ℕ
 text_of_field bytes = text_after false bytes
 
+-- a space and a number, and that for each of these numbers
+abbrev pub after_space : ℕ → List ℕ
+after_space number = codes " " ++ decimal number
+
+abbrev pub numbers_text : List ℕ → List ℕ
+numbers_text numbers = flat_map after_space numbers
+
 -- what a report says of a refusal, after its number
 abbrev pub refusal_text : Refusal → List ℕ
 refusal_text (Syntax place) = codes "syntax " ++ decimal place
@@ -41,6 +48,11 @@ refusal_text (Unknown name) = codes "unknown " ++ field name
 refusal_text (Exists name) = codes "exists " ++ field name
 refusal_text Clash = codes "clash"
 refusal_text Range = codes "range"
+refusal_text (Deadlock cycle) = codes "deadlock" ++ numbers_text cycle
+refusal_text Aborted = codes "aborted"
+refusal_text InBlock = codes "block"
+refusal_text (Vacuuming session) = codes "vacuum " ++ decimal session
+refusal_text (Limit count) = codes "limit rows " ++ decimal count
 refusal_text Memory = codes "memory"
 
 -- a field of an answer: `\N` where there is no value, which no text is printed as

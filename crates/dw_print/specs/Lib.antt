@@ -2,4 +2,5 @@ pub mod Fields
 pub mod Rows
 pub mod Answers
 pub mod Tables
+pub mod Events
 pub mod Report

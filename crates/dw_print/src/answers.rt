@@ -34,10 +34,13 @@ pub fn write_answer(out: &mut Vec<u8>, answer: &Answer) -> Result<(), AllocError
 }
 
 /// Writes the words that a statement begins with.
-fn write_word(out: &mut Vec<u8>, word: Word) -> Result<(), AllocError>
+pub fn write_word(out: &mut Vec<u8>, word: Word) -> Result<(), AllocError>
     ensures { OnOk result (out.new.items ≡ out.old.items ++ word_text word) }
 {
     match word {
+        Word::Begin => write_text(out, "BEGIN"),
+        Word::Commit => write_text(out, "COMMIT"),
+        Word::Rollback => write_text(out, "ROLLBACK"),
         Word::CreateTable => write_text(out, "CREATE TABLE"),
         Word::Insert => write_text(out, "INSERT"),
         Word::Select => write_text(out, "SELECT"),

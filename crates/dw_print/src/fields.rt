@@ -1,6 +1,6 @@
 //! The parts of a line: texts, numbers, names, values and refusals, each written behind what is there already.
 ghost use Rattle.std.specs.Prelude.{◌≡◌, ◌++◌, OnOk};
-ghost use Rattle.dw_print.specs.Fields.{escape, field, refusal_text, shown_field, value_field};
+ghost use Rattle.dw_print.specs.Fields.{escape, field, numbers_text, refusal_text, shown_field, value_field};
 
 use dw_model::Refusal;
 use dw_value::{Field, Value, show};
@@ -21,6 +21,16 @@ pub fn write_number<I: Integer>(out: &mut Vec<u8>, label: &str, number: I) -> Re
     let mut buffer = Buffer::new();
     write_text(out, label)?;
     write_text(out, buffer.format(number))
+}
+
+/// Writes the numbers of sessions, with a space before each.
+pub fn write_sessions(out: &mut Vec<u8>, sessions: &[u32]) -> Result<(), AllocError>
+    ensures { OnOk result (out.new.items ≡ out.old.items ++ numbers_text sessions.now) }
+{
+    for session in sessions {
+        write_number(out, " ", *session)?;
+    }
+    Ok(())
 }
 
 /// Writes one byte of a field.
@@ -78,6 +88,14 @@ pub fn write_refusal(out: &mut Vec<u8>, refusal: &Refusal) -> Result<(), AllocEr
         Refusal::Exists { name } => write_field(out, "exists ", name.as_bytes()),
         Refusal::Clash => write_text(out, "clash"),
         Refusal::Range => write_text(out, "range"),
+        Refusal::Deadlock { cycle } => {
+            write_text(out, "deadlock")?;
+            write_sessions(out, cycle.as_slice())
+        }
+        Refusal::Aborted => write_text(out, "aborted"),
+        Refusal::InBlock => write_text(out, "block"),
+        Refusal::Vacuuming { session } => write_number(out, "vacuum ", *session),
+        Refusal::Limit { count } => write_number(out, "limit rows ", *count),
         Refusal::Memory => write_text(out, "memory"),
     }
 }

@@ -1,6 +1,6 @@
 -- What is written so far, with what the events that are left give, is what all events give.
 use Rattle.std.proofs.Common.{◌≡◌, ◌++◌, ◌+◌, drop}
-use Rattle.dw_print.specs.Report.{journal_lines}
+use Rattle.dw_print.specs.Events.{journal_lines}
 use Rattle.dw_print.proofs.events.write_events.Given as goal
 
 abbrev pub invariant-loop-index : goal.invariant-loop-index

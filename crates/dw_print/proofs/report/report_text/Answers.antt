@@ -1,5 +1,6 @@
 use Rattle.std.proofs.Common.{◌++◌, ◌∙◌, ap}
-use Rattle.dw_print.specs.Report.{header, journal_lines, serial_line}
+use Rattle.dw_print.specs.Events.{journal_lines}
+use Rattle.dw_print.specs.Report.{header, serial_line}
 use Rattle.dw_print.specs.Tables.{tables_lines}
 use Rattle.dw_print.proofs.Lines.{parts_are_written}
 use Rattle.dw_print.proofs.report.report_text.Goals as goal
