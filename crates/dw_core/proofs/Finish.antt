@@ -12,14 +12,22 @@ use Rattle.dw_model.specs.Objects.{reads_of, writes_of}
 use Rattle.dw_journal.specs.declared.Route.TheVariants.{Main}
 use Rattle.dw_journal.specs.Watermarks.{low_watermark, high_watermark}
 use Rattle.dw_core.specs.declared.session.Session.{Session}
-use Rattle.dw_core.proofs.Ready.{done_opened}
+use Rattle.dw_core.proofs.Ready.{done_opened, refused_foreign, refused_bound}
 use Rattle.dw_model.specs.Databases.{Tables}
 use Rattle.dw_journal.specs.declared.Certified.{Certified}
 use Rattle.dw_journal.specs.declared.Event.{Event}
 use Rattle.dw_journal.specs.declared.Event.TheVariants.{Opened, Answer, Commit, End}
 use Rattle.dw_journal.specs.declared.Given.{Given}
 use Rattle.dw_journal.specs.declared.Journal.{Journal}
-use Rattle.dw_journal.specs.History.{Scripts, IsSession, has_ended, history}
+use Rattle.dw_model.specs.Limits.{limit_refusal}
+use Rattle.std.proofs.lemmas.Option.{slice_get_past}
+use Rattle.std.specs.Prelude.{Option, Some, None, slice_get}
+use Rattle.dw_model.specs.declared.refusals.Refusal.{Refusal}
+use Rattle.dw_journal.specs.declared.Event.TheVariants.{Refuse}
+use Rattle.dw_journal.specs.declared.Given.TheVariants.{Read, Refused}
+use Rattle.dw_journal.specs.Follows.{due, ends}
+use Rattle.dw_journal.specs.Turns.{AtEnd, taking, turn_of}
+use Rattle.dw_journal.specs.History.{Scripts, IsSession, given_at, has_ended, history}
 use Rattle.dw_journal.specs.Transactions.{Committed, committed}
 use Rattle.dw_journal.specs.Contents.{contents}
 use Rattle.dw_journal.specs.Serial.{in_order, serial_order, RunsInOrder, IsSerial}
@@ -27,7 +35,10 @@ use Rattle.dw_journal.specs.Driven.{Steps, none, more, event, rounds_of}
 use Rattle.dw_journal.proofs.StepLemmas.{EachFollows-steps, EachIsLegal-steps}
 use Rattle.dw_journal.specs.declared.Shape.{Shape}
 use Rattle.dw_core.specs.Run.{IsRun, standard_shape}
-use Rattle.dw_core.specs.Session.{Ready, IsReady, IsOpened}
+use Rattle.dw_core.specs.Session.{AllWork, Ready, IsReady, IsOpened, first_refusal}
+
+same_some : (a b : Refusal) → Some a ≡ Some b → a ≡ b
+same_some a b e = cc
 
 -- the newest event stands first in a history
 pub newest_first : (events : List Event) (next : Event) → reverse (events ++ next ∷ []) ≡ next ∷ reverse events
@@ -43,13 +54,20 @@ module _ (script : List Given) (newest : List Event) (done : List Certified) (ta
   abbrev scripts : Scripts
   scripts = script ∷ []
 
-  end_steps : Steps scripts (rounds_of 1 (suc ready.rounds) ++ []) (history journal)
+  -- no statement is left
+  turn_end : turn_of (standard_shape 1) scripts 1 newest ≡ AtEnd
+  turn_end =
+      ready.between
+      ∙ ap (λ (n : ℕ). taking (n + 1) (given_at scripts 1 (n + 1))) ready.taken_is
+      ∙ ap (taking (length script + 1)) (slice_get_past script _ (omega arith))
+
+  end_steps : Steps (standard_shape 1) scripts (rounds_of 1 (suc ready.rounds) ++ []) (history journal)
   end_steps =
-      let last : Steps scripts (rounds_of 1 (suc ready.rounds) ++ []) (End 1 ∷ newest) = more ready.steps (event (End 1) refl ((omega arith, omega arith), (ready.between, ready.taken_is)) tt) in
+      let last : Steps (standard_shape 1) scripts (rounds_of 1 (suc ready.rounds) ++ []) (End 1 ∷ newest) = more ready.steps (event (End 1) refl (due 1 (omega arith) (rw turn_end ends)) tt) in
       rw is last
 
-  ends : (session : ℕ) → IsSession scripts session → has_ended session (history journal) ≡ true
-  ends session within = rw is (ended_all script newest session within)
+  all_end : (session : ℕ) → IsSession scripts session → has_ended session (history journal) ≡ true
+  all_end session within = rw is (ended_all script newest session within)
 
   pub contents_end : tables ≡ contents scripts (history journal)
   contents_end = sym (ap (contents scripts) is ∙ ready.contents_are)
@@ -64,12 +82,15 @@ module _ (script : List Given) (newest : List Event) (done : List Certified) (ta
       subst (λ (events : List Event). RunsInOrder scripts (in_order (committed events)) map_of.empty (contents scripts (history journal))) (sym is) runs
 
   -- so much is a run
+  steps_in : journal.shape ≡ standard_shape 1 → Steps journal.shape scripts (rounds_of 1 (suc ready.rounds) ++ []) (history journal)
+  steps_in shape_is = rw shape_is end_steps
+
   pub run_end : journal.shape ≡ standard_shape 1 → IsRun scripts [] journal
   run_end shape_is = record {
     shape = shape_is;
-    driven = record { rounds = suc ready.rounds; steps = end_steps; ends = ends };
-    legal = record { follows = EachFollows-steps scripts end_steps; legal = EachIsLegal-steps scripts end_steps };
-    follows = record { each = EachFollows-steps scripts end_steps; sessions = ap (λ (shape : Shape). shape.sessions) shape_is; ends = ends };
+    driven = record { rounds = suc ready.rounds; steps = steps_in shape_is; ends = all_end };
+    legal = record { follows = EachFollows-steps journal.shape scripts (steps_in shape_is); legal = EachIsLegal-steps journal.shape scripts (steps_in shape_is) };
+    follows = record { each = EachFollows-steps journal.shape scripts (steps_in shape_is); sessions = ap (λ (shape : Shape). shape.sessions) shape_is; ends = all_end };
     serial = serial_end;
   }
 
@@ -79,6 +100,8 @@ Ready-none script = record {
   rounds = 0;
   steps = none;
   between = refl;
+  outside = refl;
+  not_open = refl;
   taken_is = refl;
   none_open = refl;
   contents_are = refl;
@@ -98,6 +121,24 @@ pub OnOk-then : {T E P Q : Type 0} (result : Result T E) → OnOk result P → (
 OnOk-then (Ok x) holds so = so holds
 OnOk-then (Err e) holds so = tt
 
+-- the next statement is refused without being opened
+refused_by : (script : List Given) (count : ℕ) (newest : List Event) (done : List Certified) (tables : Tables) (serial : List ℕ)
+    → Ready script count newest done tables serial → count < length script → AllWork script
+    → (refusal : Refusal) (given : Option Given) → slice_get script count ≡ given → first_refusal given tables ≡ Some refusal
+    → Ready script (count + 1) (Refuse 1 (count + 1) refusal ∷ newest) done tables serial
+refused_by script count newest done tables serial ready within works refusal None is owed = cc
+refused_by script count newest done tables serial ready within works refusal (Some (Refused other)) is owed =
+    refused_foreign script count newest done tables serial ready within refusal (is ∙ ap (λ (r : Refusal). Some (Refused r)) (same_some other refusal owed))
+refused_by script count newest done tables serial ready within works refusal (Some (Read statement)) is owed =
+    refused_bound script count newest done tables serial ready within statement is (works count statement is) refusal owed
+
+pub refused : (script : List Given) (count : ℕ) (newest : List Event) (done : List Certified) (tables : Tables) (serial : List ℕ)
+    → Ready script count newest done tables serial → count < length script → AllWork script
+    → (refusal : Refusal) → first_refusal (slice_get script count) tables ≡ Some refusal
+    → Ready script (count + 1) (Refuse 1 (count + 1) refusal ∷ newest) done tables serial
+refused script count newest done tables serial ready within works refusal owed =
+    refused_by script count newest done tables serial ready within works refusal (slice_get script count) refl owed
+
 -- one more event, pushed behind the others
 pub Ready-pushed : (script : List Given) (count : ℕ) (events pushed : List Event) (next : Event) (done : List Certified) (tables : Tables) (serial : List ℕ)
     → pushed ≡ events ++ next ∷ [] → Ready script count (next ∷ reverse events) done tables serial → Ready script count (reverse pushed) done tables serial
@@ -106,7 +147,7 @@ Ready-pushed script count events pushed next done tables serial is ready =
 
 -- the opened statement is answered and committed
 module _ (script : List Given) (count : ℕ) (session : Session) (statement : Statement) (answer : Reply) (next : Tables)
-    (opened : IsOpened script count statement session) (within : count < length script) (is_done : alone statement session.database ≡ Done answer next)
+    (opened : IsOpened script count statement session) (within : count < length script) (is_done : alone statement session.database ≡ Done answer next) (limit : limit_refusal statement next ≡ None)
     (snapshot : ℕ) (reads writes : List Object) (low high stamp : ℕ) (certifier : List Certified) (answered all : List Event) (serial : List ℕ)
     (snapshot_is : snapshot ≡ length session.certifier) (reads_are : reads ≡ reads_of statement) (writes_are : writes ≡ writes_of statement)
     (low_is : low ≡ low_watermark snapshot reads session.certifier) (high_is : high ≡ high_watermark snapshot reads writes session.certifier)
@@ -139,12 +180,12 @@ module _ (script : List Given) (count : ℕ) (session : Session) (statement : St
   serial_due : serial ≡ session.serial ++ (length before + 1) ∷ []
   serial_due = serial_is ∙ ap (λ (n : ℕ). session.serial ++ n ∷ []) stamp_is
 
-  opened_due : Steps (script ∷ []) (rounds_of 1 (suc opened.ready.rounds) ++ []) (Opened 1 (count + 1) (length before) Main ∷ opened.older)
-  opened_due = subst (λ (events : List Event). Steps (script ∷ []) (rounds_of 1 (suc opened.ready.rounds) ++ []) events) opened.opened opened.steps
+  opened_due : Steps (standard_shape 1) (script ∷ []) (rounds_of 1 (suc opened.ready.rounds) ++ []) (Opened 1 (count + 1) (length before) Main ∷ opened.older)
+  opened_due = subst (λ (events : List Event). Steps (standard_shape 1) (script ∷ []) (rounds_of 1 (suc opened.ready.rounds) ++ []) events) opened.opened opened.steps
 
   pub Ready-committed : IsReady script (count + 1) (record { events = all; certifier = certifier; database = next; serial = serial })
   Ready-committed =
-      let ready = done_opened script count opened.older before session.database session.serial opened.ready within statement opened.given answer next is_done opened_due in
+      let ready = done_opened script count opened.older before session.database session.serial opened.ready within statement opened.given opened.works answer next is_done limit opened_due in
       record {
         ready = subst (λ (stamps : List ℕ). Ready script (count + 1) (reverse all) certifier next stamps) (sym serial_due)
             (subst (λ (commits : List Certified). Ready script (count + 1) (reverse all) commits next (session.serial ++ (length before + 1) ∷ [])) (sym certifier_due)

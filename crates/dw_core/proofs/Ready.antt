@@ -1,6 +1,7 @@
 -- The steps of the one session keep what is said of it.
-use Rattle.std.proofs.Common.{◌≡◌, ℕ, ◌+◌, ◌-◌, ◌<◌, ◌≤◌, suc, zero, List, [], ◌∷◌, ◌++◌, length, map, reverse, refl, sym, ap, subst, ◌∙◌, arith, add-one}
-use Rattle.std.specs.Prelude.{slice_get, Option, Some, None, ◌⊎◌, flat_map, unwrap_or}
+use Rattle.std.proofs.Common.{◌≡◌, ℕ, ◌+◌, ◌-◌, ◌<◌, ◌≤◌, suc, zero, Bool, true, false, cond, not, ◌&&◌, nat_le, List, [], ◌∷◌, ◌++◌, length, map, reverse, refl, sym, ap, subst, ◌∙◌, arith, add-one}
+use Rattle.std.specs.Prelude.{slice_get, Option, Some, None, ◌⊎◌, flat_map, unwrap_or, if◌then◌else◌, ◌==◌}
+use Rattle.std.specs.List.{filter, list_any, range_with_len, count_by}
 use Rattle.std.proofs.lemmas.List.{reverse-append, append-nil, length-map, map-append}
 use Rattle.std.specs.FinMap as map_of
 use Rattle.dw_model.specs.declared.answers.Answer.{Answer as Reply}
@@ -12,6 +13,8 @@ use Rattle.dw_model.specs.declared.tables.Object.{Object}
 use Rattle.dw_model.specs.Databases.{Tables}
 use Rattle.dw_model.specs.Binding.{bound_refusal}
 use Rattle.dw_model.specs.Alone.{alone}
+use Rattle.dw_model.specs.Limits.{limit_refusal}
+use Rattle.dw_model.specs.declared.statements.Statement.TheVariants as forms
 use Rattle.dw_model.specs.Objects.{reads_of, writes_of}
 use Rattle.dw_journal.specs.declared.Certified.{Certified}
 use Rattle.dw_journal.specs.declared.Event.{Event}
@@ -19,16 +22,24 @@ use Rattle.dw_journal.specs.declared.Event.TheVariants.{Opened, Answer, Commit, 
 use Rattle.dw_journal.specs.declared.Given.{Given}
 use Rattle.dw_journal.specs.declared.Given.TheVariants.{Read, Refused}
 use Rattle.dw_journal.specs.declared.Route.TheVariants.{Main}
-use Rattle.dw_journal.specs.History.{Scripts, standing, Between, IsOpen, IsAnswered, taken, given_at, statement_at, read_in}
+use Rattle.dw_journal.specs.declared.locks.Want.{Want}
+use Rattle.dw_journal.specs.declared.Shape.{Shape}
+use Rattle.dw_journal.specs.History.{Scripts, last_of, taken, given_at, statement_at, read_in}
+use Rattle.dw_journal.specs.Blocks.{Block, Outside, block_of, refused_in}
+use Rattle.dw_journal.specs.Locks.{Wants, blockers, blocks, held, stands_in_way, wants_in, wants_of}
+use Rattle.dw_journal.specs.Routes.{is_open_on, is_select, has_written_none, may_leave, route_of, cluster_or_main}
+use Rattle.dw_journal.specs.Turns.{Call, Works, Taking, Turn, answered_turn, call_of, call_of_statement, next_turn, taking, turn_of}
+use Rattle.dw_journal.specs.Follows.{IsDue, due, answers, decides, takes, foreign, work_outside, is_answer, is_answer_refused, is_commit, is_opened, is_opening_refused}
 use Rattle.dw_journal.specs.Transactions.{Transaction, transaction_of, Committed, committed, committed_as, commits, answered_statements, statements_in, reads_in, writes_in, opened_in, answered_in}
 use Rattle.dw_journal.specs.Contents.{contents, contents_at, states, state_at, newest_state, view, view_in, after_commit}
 use Rattle.dw_journal.specs.Watermarks.{low_watermark, high_watermark}
-use Rattle.dw_journal.specs.Legal.{certified, certified_as, opening_refusal, IsRefusal, IsBound, IsRefusedAlone, Answers, low_of, high_of, snapshot_due}
+use Rattle.dw_journal.specs.Legal.{certified, certified_as, opening_refusal, unless_blocked, blockers_of, cycle_of, work_refusal, IsRefusal, IsWorkRefusal, IsLegalAnswer, low_of, high_of, snapshot_due}
 use Rattle.dw_journal.specs.Serial.{in_order, LowsBelow, RunsInOrder, RunsAlone}
 use Rattle.dw_journal.specs.Driven.{Steps, none, more, Step, event, rounds_of}
 use Rattle.dw_journal.proofs.Sequential.{low_over-all_seen, high_over-le, in_order-last, LowsBelow-further, RunsInOrder-append}
 use Rattle.dw_journal.proofs.CommitAlone.{after_commit-alone}
-use Rattle.dw_core.specs.Session.{Ready}
+use Rattle.dw_core.specs.Run.{standard_shape}
+use Rattle.dw_core.specs.Session.{IsWork, Ready, first_refusal}
 
 -- the states after no commit, after one, .. are one more than the commits
 length-states : (scripts : Scripts) (done : List Committed) → length (states scripts done) ≡ length done + 1
@@ -47,10 +58,51 @@ state_at-newest scripts done =
     let last : length (states scripts done) - (length done + 1) ≡ 0 = omega (arith, length-states scripts done) in
     rw last (head_of_states scripts done)
 
+-- where nothing is asked for, nothing stands in the way
+any_of_none : (locks : List Want) → list_any (λ (lock : Want). list_any (stands_in_way lock) []) locks ≡ false
+any_of_none [] = refl
+any_of_none (lock ∷ locks) = any_of_none locks
+
+and_false : (b : Bool) → (b && false) ≡ false
+and_false true = refl
+and_false false = refl
+
+and_false_and : (a b : Bool) → ((a && false) && b) ≡ false
+and_false_and true b = refl
+and_false_and false b = refl
+
+none_blocks : (wants : Wants) (events : List Event) (session : ℕ) (others : List ℕ)
+    → filter (λ (other : ℕ). not (other == session) && blocks wants events [] other) others ≡ []
+none_blocks wants events session [] = refl
+none_blocks wants events session (other ∷ others) =
+    let e : (not (other == session) && blocks wants events [] other) ≡ false = rw (any_of_none (held wants events other)) (and_false _) in
+    rw e (none_blocks wants events session others)
+
+blockers-none : (wants : Wants) (sessions : ℕ) (events : List Event) (session : ℕ) → blockers wants sessions events session [] ≡ []
+blockers-none wants sessions events session = none_blocks wants events session (range_with_len 0 (suc sessions))
+
+-- a statement that is run on what the session sees wants no lock
+work_wants : (statement : Statement) → IsWork statement → wants_in (Some statement) ≡ []
+work_wants forms.Begin works = refl
+work_wants forms.Commit works = refl
+work_wants forms.Rollback works = refl
+work_wants (forms.Vacuum table) works = cc
+work_wants (forms.Create spec) works = refl
+work_wants (forms.Insert table rows) works = refl
+work_wants (forms.Select query) works = refl
+
+-- a refusal outside a block leaves the session outside
+refused_outside : (b : Bool) → (if b then Outside else refused_in Outside) ≡ Outside
+refused_outside true = refl
+refused_outside false = refl
+
 -- one event that comes next, in the words of the definitions
 module _ (script : List Given) (count : ℕ) where
   abbrev scripts : Scripts
   scripts = script ∷ []
+
+  abbrev shape : Shape
+  shape = standard_shape 1
 
   given_next : given_at scripts 1 (count + 1) ≡ slice_get script count
   given_next = ap (slice_get script) (omega arith)
@@ -63,36 +115,80 @@ module _ (script : List Given) (count : ℕ) where
     commits_ready : length (committed newest) ≡ length done
     commits_ready = simp length-map at (ap length ready.certified_are)
 
-    -- the next statement is refused without being opened
-    pub refused : (refusal : Refusal) → opening_refusal (slice_get script count) tables ≡ Some refusal
-        → Ready script (count + 1) (Refuse 1 (count + 1) refusal ∷ newest) done tables serial
-    refused refusal due =
-        let legal : opening_refusal (given_at scripts 1 (count + 1)) (view scripts newest 1) ≡ Some refusal = rw (given_next, view_ready) due in
-        record {
-          rounds = suc ready.rounds;
-          steps = more ready.steps (event (Refuse 1 (count + 1) refusal) refl ((omega arith, omega arith), rw ready.between (omega (arith, ready.taken_is), omega arith)) (rw ready.between legal));
-          between = refl;
-          taken_is = refl;
-          none_open = refl;
-          contents_are = ready.contents_are;
-          certified_are = ready.certified_are;
-          lows = ready.lows;
-          runs = ready.runs;
-          stamps = ready.stamps;
-        }
+    -- the next statement is to be taken
+    turn_ready : turn_of shape scripts 1 newest ≡ taking (count + 1) (slice_get script count)
+    turn_ready =
+        ready.between
+        ∙ ap (λ (n : ℕ). taking (n + 1) (given_at scripts 1 (n + 1))) ready.taken_is
+        ∙ ap (taking (count + 1)) given_next
 
-    module _ (statement : Statement) (given : slice_get script count ≡ Some (Read statement)) where
+    -- so a session that stands between two statements stays outside of blocks when one is refused
+    still_outside : (b : Bool) → (if b then Outside else refused_in (block_of scripts 1 newest)) ≡ Outside
+    still_outside b = ap (λ (block : Block). if b then Outside else refused_in block) ready.outside ∙ refused_outside b
+
+    after_refusal : (refusal : Refusal) → Steps shape scripts (rounds_of 1 (suc ready.rounds) ++ []) (Refuse 1 (count + 1) refusal ∷ newest)
+        → Ready script (count + 1) (Refuse 1 (count + 1) refusal ∷ newest) done tables serial
+    after_refusal refusal steps = record {
+      rounds = suc ready.rounds;
+      steps = steps;
+      between = refl;
+      outside = still_outside _;
+      not_open = refl;
+      taken_is = refl;
+      none_open = refl;
+      contents_are = ready.contents_are;
+      certified_are = ready.certified_are;
+      lows = ready.lows;
+      runs = ready.runs;
+      stamps = ready.stamps;
+    }
+
+    -- the next statement isn't in the grammar
+    pub refused_foreign : (refusal : Refusal) → slice_get script count ≡ Some (Refused refusal)
+        → Ready script (count + 1) (Refuse 1 (count + 1) refusal ∷ newest) done tables serial
+    refused_foreign refusal given =
+        let turn = turn_ready ∙ ap (taking (count + 1)) given in
+        after_refusal refusal (more ready.steps (event (Refuse 1 (count + 1) refusal) refl (due 1 (omega arith) (rw turn (takes foreign))) (rw turn refl)))
+
+    module _ (statement : Statement) (given : slice_get script count ≡ Some (Read statement)) (works : IsWork statement) where
       abbrev opening : Event
       opening = Opened 1 (count + 1) (length done) Main
 
       statement_next : statement_at scripts 1 (count + 1) ≡ Some statement
       statement_next = ap read_in (given_next ∙ given)
 
+      turn_works : turn_of shape scripts 1 newest ≡ Taking (count + 1) (Works statement)
+      turn_works = turn_ready ∙ ap (taking (count + 1)) given ∙ ap (Taking (count + 1)) works
+
+      nothing_wanted : wants_of scripts 1 (count + 1) ≡ []
+      nothing_wanted = ap wants_in statement_next ∙ work_wants statement works
+
+      no_blockers : blockers_of shape scripts newest 1 (count + 1) ≡ []
+      no_blockers = ap (blockers (wants_of scripts) 1 newest 1) nothing_wanted ∙ blockers-none (wants_of scripts) 1 newest 1
+
+      -- the names or kinds of the next statement don't fit
+      pub refused_bound : (refusal : Refusal) → bound_refusal statement tables ≡ Some refusal
+          → Ready script (count + 1) (Refuse 1 (count + 1) refusal ∷ newest) done tables serial
+      refused_bound refusal bound =
+          let legal : unless_blocked (blockers_of shape scripts newest 1 (count + 1)) (cycle_of shape scripts newest 1 (count + 1)) (bound_refusal statement (view scripts newest 1)) ≡ Some refusal =
+          rw (no_blockers, view_ready) bound in
+          after_refusal refusal (more ready.steps (event (Refuse 1 (count + 1) refusal) refl (due 1 (omega arith) (rw (turn_works, ready.outside) (takes (work_outside (is_opening_refused refusal))))) (rw (turn_works, ready.outside) legal)))
+
+      -- all slots are free, so it is worked on here
+      none_on_main : nat_le 5 (count_by (λ session. is_open_on Main (last_of session newest)) (range_with_len 1 1)) ≡ false
+      none_on_main = rw ready.not_open refl
+
+      here : (snapshot : ℕ) → route_of shape scripts newest 1 snapshot statement ≡ Main
+      here snapshot =
+          let stays : may_leave shape scripts newest 1 statement ≡ false = rw none_on_main (and_false_and _ _) in
+          rw stays refl
+
       -- the next statement is opened
-      pub opened_steps : bound_refusal statement tables ≡ None → Steps scripts (rounds_of 1 (suc ready.rounds) ++ []) (opening ∷ newest)
+      pub opened_steps : bound_refusal statement tables ≡ None → Steps shape scripts (rounds_of 1 (suc ready.rounds) ++ []) (opening ∷ newest)
       opened_steps bound =
           let seen : length done ≡ snapshot_due newest (transaction_of 1 newest) = sym commits_ready ∙ ap (snapshot_due newest) (sym ready.none_open) in
-          more ready.steps (event opening refl ((omega arith, omega arith), (ready.between, (omega (arith, ready.taken_is), omega arith), rw statement_next refl)) (rw (statement_next, view_ready) bound, seen))
+          let bound_here : bound_refusal statement (view scripts newest 1) ≡ None = rw view_ready bound in
+          more ready.steps (event opening refl (due 1 (omega arith) (rw (turn_works, ready.outside) (takes (work_outside (is_opened (length done) Main))))) (rw statement_next (no_blockers, bound_here, seen, sym (here (length done)))))
 
       abbrev opened_events : List Event
       opened_events = opening ∷ newest
@@ -108,16 +204,21 @@ module _ (script : List Given) (count : ℕ) where
           ∙ state_at-newest scripts (committed newest)
           ∙ ready.contents_are
 
+      opened_outside : block_of scripts 1 opened_events ≡ Outside
+      opened_outside = ready.outside
+
       -- the open statement is refused
-      pub refused_opened : (refusal : Refusal) → Steps scripts (rounds_of 1 (suc ready.rounds) ++ []) opened_events
-          → (refusal ≡ Memory) ⊎ (alone statement tables ≡ PlainRefused refusal)
+      pub refused_opened : (refusal : Refusal) → Steps shape scripts (rounds_of 1 (suc ready.rounds) ++ []) opened_events
+          → (refusal ≡ Memory) ⊎ (work_refusal statement (alone statement tables) ≡ Some refusal)
           → Ready script (count + 1) (Refuse 1 (count + 1) refusal ∷ opened_events) done tables serial
-      refused_opened refusal steps due =
-          let legal : (refusal ≡ Memory) ⊎ IsRefusedAlone (statement_at scripts 1 (count + 1)) (view scripts opened_events 1) refusal = rw (statement_next, view_opened) due in
+      refused_opened refusal steps owed =
+          let legal : (refusal ≡ Memory) ⊎ IsWorkRefusal (statement_at scripts 1 (count + 1)) (view scripts opened_events 1) refusal = rw (statement_next, view_opened) owed in
           record {
             rounds = suc (suc ready.rounds);
-            steps = more steps (event (Refuse 1 (count + 1) refusal) refl ((omega arith, omega arith), refl) legal);
+            steps = more steps (event (Refuse 1 (count + 1) refusal) refl (due 1 (omega arith) (answers (is_answer_refused refusal))) legal);
             between = refl;
+            outside = still_outside _;
+            not_open = refl;
             taken_is = refl;
             none_open = refl;
             contents_are = ready.contents_are;
@@ -127,7 +228,7 @@ module _ (script : List Given) (count : ℕ) where
             stamps = ready.stamps;
           }
 
-      module _ (answer : Reply) (next : Tables) (is_done : alone statement tables ≡ Done answer next) where
+      module _ (answer : Reply) (next : Tables) (is_done : alone statement tables ≡ Done answer next) (limit : limit_refusal statement next ≡ None) where
         abbrev answered_events : List Event
         answered_events = Answer 1 (count + 1) answer ∷ opened_events
 
@@ -183,12 +284,15 @@ module _ (script : List Given) (count : ℕ) where
         high_below : high < low
         high_below = omega (arith, low_top, high_over-le (length done) reads writes done)
 
-        all_steps : Steps scripts (rounds_of 1 (suc ready.rounds) ++ []) opened_events → Steps scripts (rounds_of 1 (suc (suc (suc ready.rounds))) ++ []) all_events
+        turn_answered : turn_of shape scripts 1 answered_events ≡ answered_turn Outside (count + 1) (next_turn scripts 1 answered_events)
+        turn_answered = ap (λ (block : Block). answered_turn block (count + 1) (next_turn scripts 1 answered_events)) ready.outside
+
+        all_steps : Steps shape scripts (rounds_of 1 (suc ready.rounds) ++ []) opened_events → Steps shape scripts (rounds_of 1 (suc (suc (suc ready.rounds))) ++ []) all_events
         all_steps steps =
-            let answers : Answers (statement_at scripts 1 (count + 1)) (view scripts opened_events 1) answer = rw (statement_next, view_opened) (next, is_done) in
-            let answered : Steps scripts (rounds_of 1 (suc (suc ready.rounds)) ++ []) answered_events =
-            more steps (event (Answer 1 (count + 1) answer) refl ((omega arith, omega arith), refl) answers) in
-            more answered (event (Commit 1 (count + 1) (length done + 1) low high) refl ((omega arith, omega arith), refl) (ap (λ (n : ℕ). n + 1) (sym commits_ready), sym low_is, sym high_is, high_below))
+            let legal : IsLegalAnswer (statement_at scripts 1 (count + 1)) (view scripts opened_events 1) answer = rw (statement_next, view_opened) (next, is_done, limit) in
+            let answered : Steps shape scripts (rounds_of 1 (suc (suc ready.rounds)) ++ []) answered_events =
+            more steps (event (Answer 1 (count + 1) answer) refl (due 1 (omega arith) (answers (is_answer answer))) legal) in
+            more answered (event (Commit 1 (count + 1) (length done + 1) low high) refl (due 1 (omega arith) (rw turn_answered (decides (is_commit (length done + 1) low high)))) (ap (λ (n : ℕ). n + 1) (sym commits_ready), sym low_is, sym high_is, high_below))
 
         abbrev commit : Committed
         commit = record { session = 1; stamp = length done + 1; low = low; snapshot = length done; answered = (count + 1, answer) ∷ [] }
@@ -242,12 +346,14 @@ module _ (script : List Given) (count : ℕ) where
             ∙ ap (map (λ (transaction : Committed). transaction.stamp)) (sym all_order)
 
         -- the open statement is answered and committed
-        pub done_opened : Steps scripts (rounds_of 1 (suc ready.rounds) ++ []) opened_events
+        pub done_opened : Steps shape scripts (rounds_of 1 (suc ready.rounds) ++ []) opened_events
             → Ready script (count + 1) all_events (record { low = low; reads = reads; writes = writes } ∷ done) next (serial ++ (length done + 1) ∷ [])
         done_opened steps = record {
           rounds = suc (suc (suc ready.rounds));
           steps = all_steps steps;
           between = refl;
+          outside = refl;
+          not_open = refl;
           taken_is = refl;
           none_open = refl;
           contents_are = all_contents;

@@ -12,6 +12,9 @@ pub(crate) fn reads_of(alloc: Global, statement: &Statement) -> Result<List<Obje
     ensures { IfOk result (λ objects. objects ≡ reads_of statement.now) }
 {
     match statement {
+        Statement::Begin | Statement::Commit | Statement::Rollback | Statement::Vacuum { .. } => Ok(
+            List::new(alloc),
+        ),
         Statement::Create { spec } => both(alloc, &spec.name),
         Statement::Insert { table, .. } => only(alloc, Object::Def(table.copy()?)),
         Statement::Select { query } => both(alloc, &query.table),
@@ -25,7 +28,11 @@ pub(crate) fn writes_of(alloc: Global, statement: &Statement) -> Result<List<Obj
     match statement {
         Statement::Create { spec } => both(alloc, &spec.name),
         Statement::Insert { table, .. } => only(alloc, Object::Rows(table.copy()?)),
-        Statement::Select { .. } => Ok(List::new(alloc)),
+        Statement::Begin
+        | Statement::Commit
+        | Statement::Rollback
+        | Statement::Vacuum { .. }
+        | Statement::Select { .. } => Ok(List::new(alloc)),
     }
 }
 

@@ -3,6 +3,7 @@ ghost use Rattle.dw_journal.specs.History.{history};
 ghost use Rattle.dw_journal.specs.Contents.{contents};
 ghost use Rattle.dw_journal.specs.Serial.{serial_order};
 ghost use Rattle.dw_core.specs.Run.{IsRun};
+ghost use Rattle.dw_core.specs.Session.{AllWork};
 
 use crate::session::{Session, take};
 use dw_journal::{Event, Given, Journal, Shape};
@@ -19,12 +20,14 @@ pub struct Ran {
     pub serial: List<u64>,
 }
 
-/// Drives session 1 through its script to the end, in a warehouse of the standard shape.
+/// Drives session 1 through its script to the end, in a warehouse of the standard shape. No statement of the script begins
+/// or ends a block, and none is a VACUUM.
 ///
 /// Where memory runs out while a statement is worked on, that statement is refused; where it runs out for the journal
 /// itself, there is no run.
 pub fn run_script(alloc: Global, script: &[Given]) -> Result<Ran, AllocError>
-    requires { length script.now < 2 ^ 32 }
+    requires few { length script.now < 2 ^ 32 }
+    requires works { AllWork script.now }
     ensures run { IfOk result (λ ran. IsRun (script.now ∷ []) [] ran.journal) }
     ensures database { IfOk result (λ ran. ran.database ≡ contents (script.now ∷ []) (history ran.journal)) }
     ensures serial { IfOk result (λ ran. ran.serial ≡ map (λ transaction. transaction.stamp) (serial_order ran.journal)) }

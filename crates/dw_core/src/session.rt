@@ -3,12 +3,13 @@
 ghost use Rattle.std.specs.Prelude.{◌≡◌, ◌⊎◌, ◌+◌, ◌^◌, ◌<◌, length, Some, None, slice_get, OnOk};
 ghost use Rattle.dw_model.specs.Binding.{bound_refusal};
 ghost use Rattle.dw_model.specs.Alone.{alone};
-ghost use Rattle.dw_journal.specs.Legal.{opening_refusal};
-ghost use Rattle.dw_core.specs.Session.{IsReady, IsOpened};
+ghost use Rattle.dw_model.specs.Limits.{limit_refusal};
+ghost use Rattle.dw_journal.specs.Legal.{work_refusal};
+ghost use Rattle.dw_core.specs.Session.{AllWork, IsReady, IsOpened, first_refusal};
 
 use crate::objects::{reads_of, writes_of};
 use dw_journal::{Event, Given, Route};
-use dw_model::{Answer, Database, Plain, Refusal, Statement};
+use dw_model::{Answer, Database, Plain, Refusal, Statement, limit_refusal};
 use dw_plain::{bound_refusal, plain_run};
 use dw_ssn::{Certifier, Taken};
 use dw_value::List;
@@ -33,6 +34,7 @@ pub(crate) fn take(
     requires ready { IsReady script.now place session.old }
     requires within { place < length script.now }
     requires few { length script.now < 2 ^ 32 }
+    requires works { AllWork script.now }
     ensures { OnOk result (IsReady script.now (place + 1) session.new) }
 {
     match &script[place] {
@@ -51,7 +53,8 @@ fn refuse(
     requires ready { IsReady script.now place session.old }
     requires within { place < length script.now }
     requires few { length script.now < 2 ^ 32 }
-    requires due { opening_refusal (slice_get script.now place) session.old.database ≡ Some refusal }
+    requires works { AllWork script.now }
+    requires due { first_refusal (slice_get script.now place) session.old.database ≡ Some refusal }
     ensures { OnOk result (IsReady script.now (place + 1) session.new) }
 {
     session.events.push(Event::Refuse {
@@ -72,6 +75,7 @@ fn take_statement(
     requires ready { IsReady script.now place session.old }
     requires few { length script.now < 2 ^ 32 }
     requires within { place < length script.now }
+    requires works { AllWork script.now }
     requires given { slice_get script.now place ≡ Some (Given.Read statement.now) }
     ensures { OnOk result (IsReady script.now (place + 1) session.new) }
 {
@@ -80,9 +84,10 @@ fn take_statement(
     }
     open(session, script, place, statement)?;
     match plain_run(alloc, statement, &session.database) {
-        Ok(Plain::Done { answer, next }) => commit(
-            alloc, session, script, place, statement, answer, next,
-        ),
+        Ok(Plain::Done { answer, next }) => match limit_refusal(statement, &next) {
+            Some(refusal) => refuse_opened(session, script, place, statement, refusal),
+            None => commit(alloc, session, script, place, statement, answer, next),
+        },
         Ok(Plain::Refused(refusal)) => refuse_opened(session, script, place, statement, refusal),
         Err(_) => refuse_opened(session, script, place, statement, Refusal::Memory),
     }
@@ -98,6 +103,7 @@ fn open(
     requires ready { IsReady script.now place session.old }
     requires few { length script.now < 2 ^ 32 }
     requires within { place < length script.now }
+    requires works { AllWork script.now }
     requires given { slice_get script.now place ≡ Some (Given.Read statement.now) }
     requires bound { bound_refusal statement.now session.old.database ≡ None }
     ensures opened { OnOk result (IsOpened script.now place statement.now session.new) }
@@ -122,7 +128,7 @@ fn refuse_opened(
     requires opened { IsOpened script.now place statement.now session.old }
     requires few { length script.now < 2 ^ 32 }
     requires within { place < length script.now }
-    requires due { (refusal ≡ Refusal.Memory) ⊎ (alone statement.now session.old.database ≡ Plain.Refused refusal) }
+    requires due { (refusal ≡ Refusal.Memory) ⊎ (work_refusal statement.now (alone statement.now session.old.database) ≡ Some refusal) }
     ensures { OnOk result (IsReady script.now (place + 1) session.new) }
 {
     session.events.push(Event::Refuse {
@@ -146,6 +152,7 @@ fn commit(
     requires few { length script.now < 2 ^ 32 }
     requires within { place < length script.now }
     requires done { alone statement.now session.old.database ≡ Plain.Done answer next }
+    requires limit { limit_refusal statement.now next ≡ None }
     ensures { OnOk result (IsReady script.now (place + 1) session.new) }
 {
     let taken = Taken {

@@ -8,15 +8,25 @@ use Rattle.dw_lex.specs.Reading.{read_tokens}
 use Rattle.dw_parse.specs.Reading.{read_statement}
 use Rattle.dw_model.specs.declared.refusals.Refusal.TheVariants.{Syntax}
 use Rattle.dw_model.specs.declared.statements.Statement.{Statement}
+use Rattle.dw_model.specs.declared.statements.Statement.TheVariants as forms
 use Rattle.dw_journal.specs.declared.Given.{Given}
 use Rattle.dw_journal.specs.declared.Given.TheVariants.{Read, Refused}
 use Rattle.dw_journal.specs.History.{Scripts}
 use Rattle.dw_top.specs.Words.{names_of}
 
+-- A statement that is run on what the session sees is read. Those that begin and end blocks, and VACUUM, are refused at
+-- their first byte, as outside the grammar, until sessions can do them.
+abbrev pub given_of_form : Statement → Given
+given_of_form forms.Begin = Refused (Syntax 0)
+given_of_form forms.Commit = Refused (Syntax 0)
+given_of_form forms.Rollback = Refused (Syntax 0)
+given_of_form (forms.Vacuum table) = Refused (Syntax 0)
+given_of_form statement = Read statement
+
 -- the statement that the grammar derives, or the refusal at the statement's first byte where it derives none
 abbrev pub given_of_statement : Option Statement → Given
 given_of_statement None = Refused (Syntax 0)
-given_of_statement (Some statement) = Read statement
+given_of_statement (Some statement) = given_of_form statement
 
 -- the statement that the grammar derives from the tokens, or the refusal at the first place where there is none
 abbrev pub given_of_tokens : Result (List Token) ℕ → Given

@@ -2,15 +2,30 @@
 ghost use Rattle.std.specs.Prelude.{◌≡◌, ◌≤◌, length, map, IfOk, IfErr};
 ghost use Rattle.dw_script.specs.Statements.{statements, script_cause};
 ghost use Rattle.dw_top.specs.Due.{MayReject};
-ghost use Rattle.dw_top.specs.Run.{given_of};
+ghost use Rattle.dw_core.specs.Session.{AllWork};
+ghost use Rattle.dw_top.specs.Run.{given_of, given_of_form};
 
 use dw_journal::Given;
 use dw_lex::{LexFault, tokens};
-use dw_model::Refusal;
+use dw_model::{Refusal, Statement};
 use dw_parse::{ParseFault, parse};
 use dw_script::{MAX_STATEMENTS, Script, ScriptFault, Status, split};
 use dw_value::{List, Text};
 use std::alloc::{AllocError, Global};
+
+/// A statement that the grammar derives, as a script has it: read, or refused where only sessions of several statements
+/// could do it.
+fn given_of_form(statement: Statement) -> Given
+    ensures { result ≡ given_of_form statement }
+{
+    match statement {
+        Statement::Begin | Statement::Commit | Statement::Rollback | Statement::Vacuum { .. } =>
+            Given::Refused(Refusal::Syntax { place: 0 }),
+        Statement::Create { .. } | Statement::Insert { .. } | Statement::Select { .. } => {
+            Given::Read(statement)
+        }
+    }
+}
 
 /// What the grammar makes of a statement's bytes.
 fn given(alloc: Global, statement: &[u8]) -> Result<Given, AllocError>
@@ -18,7 +33,7 @@ fn given(alloc: Global, statement: &[u8]) -> Result<Given, AllocError>
 {
     match tokens(alloc, statement) {
         Ok(tokens) => match parse(alloc, &tokens) {
-            Ok(statement) => Ok(Given::Read(statement)),
+            Ok(statement) => Ok(given_of_form(statement)),
             Err(ParseFault::Syntax { place }) => Ok(Given::Refused(Refusal::Syntax { place })),
             Err(ParseFault::Memory) => Err(AllocError),
         },
@@ -44,6 +59,7 @@ pub(crate) fn read_script(alloc: Global, name: &Text, bytes: &[u8]) -> Result<Li
     ensures read { IfOk result (λ givens. script_cause bytes.now ≡ None) }
     ensures givens { IfOk result (λ givens. givens ≡ map given_of (statements bytes.now)) }
     ensures few { IfOk result (λ givens. length givens ≤ MAX_STATEMENTS) }
+    ensures works { IfOk result AllWork }
     ensures rejected { IfErr result (MayReject name.now (script_cause bytes.now)) }
 {
     let script = match split(alloc, bytes) {

@@ -6,6 +6,7 @@ ghost use Rattle.dw_print.specs.Report.{report};
 ghost use Rattle.dw_top.specs.Words.{have_form};
 ghost use Rattle.dw_top.specs.Due.{due, due_of_names, MayAnswer, ComesBefore};
 ghost use Rattle.dw_core.specs.Run.{IsRun};
+ghost use Rattle.dw_core.specs.Session.{AllWork};
 ghost use Rattle.dw_top.specs.Run.{scripts_in, scripts_of};
 
 use crate::files::read_file;
@@ -91,7 +92,8 @@ fn prepare<F: Files>(
 
 /// The report of the run of a script.
 fn report_of(alloc: Global, script: &[Given]) -> Result<List<u8>, AllocError>
-    requires { length script.now ≤ MAX_STATEMENTS }
+    requires few { length script.now ≤ MAX_STATEMENTS }
+    requires works { AllWork script.now }
     ensures { IfOk result (λ bytes. (journal : Events) × IsRun (script.now ∷ []) [] journal
         × (bytes ≡ report (script.now ∷ []) journal)) }
 {
