@@ -1,4 +1,6 @@
+mod BlockLemmas
 mod FormLemmas
+mod GapLemmas
 mod MeaningLemmas
 mod PlaceLemmas
 mod ReadLemmas

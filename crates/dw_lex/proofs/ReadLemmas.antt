@@ -8,7 +8,7 @@ use Rattle.std.proofs.lemmas.Bool.{and_parts, leb-true, eqb-true, eqb-false}
 use Rattle.std.proofs.lemmas.Str.{IsUtf8-from_is_utf8}
 use Rattle.std.proofs.lemmas.List.{length-take, length-append, drop-drop, take-append-drop, take_at, drop_at}
 use Rattle.std.proofs.lemmas.List.Sums.{prefix_len-le-length}
-use Rattle.dw_lex.specs.Characters.{begins_name, is_in_name, quote, point}
+use Rattle.dw_lex.specs.Characters.{begins_name, is_in_name, quote, point, begins_comment}
 use Rattle.dw_lex.specs.Signs.{sign_of_one, sign_of_two}
 use Rattle.dw_lex.specs.Forms.{Found, name_at, digits_at, fraction_at, number_at, text_end, words_at, longer_sign, sign_at, form_at, in_utf8, token_at}
 use Rattle.dw_lex.specs.Spelling.{EndsAt, IsDigits, IsNumber, whole, decimal, IsInside, nothing, other, quotes, text, IsToken}
@@ -28,7 +28,7 @@ takes-first : (test : ℕ → Bool) (x : ℕ) (xs : List ℕ) (t : Bool) → tes
 takes-first test x xs true e rest = let s : 1 + prefix_len test xs ≡ suc (prefix_len test xs) = omega arith in rw (e, s) (rw e rest)
 takes-first test x xs false e rest = rw e refl
 
-prefix_takes : (test : ℕ → Bool) (xs : List ℕ) → list_all test (take (prefix_len test xs) xs) ≡ true
+pub prefix_takes : (test : ℕ → Bool) (xs : List ℕ) → list_all test (take (prefix_len test xs) xs) ≡ true
 prefix_takes test [] = refl
 prefix_takes test (x ∷ xs) = takes-first test x xs (test x) refl (prefix_takes test xs)
 
@@ -36,7 +36,7 @@ ends-first : (test : ℕ → Bool) (x : ℕ) (xs : List ℕ) (t : Bool) → test
 ends-first test x xs true e rest = let s : 1 + prefix_len test xs ≡ suc (prefix_len test xs) = omega arith in rw (e, s) rest
 ends-first test x xs false e rest = rw e e
 
-prefix_ends : (test : ℕ → Bool) (xs : List ℕ) → EndsAt test (drop (prefix_len test xs) xs)
+pub prefix_ends : (test : ℕ → Bool) (xs : List ℕ) → EndsAt test (drop (prefix_len test xs) xs)
 prefix_ends test [] = tt
 prefix_ends test (x ∷ xs) = ends-first test x xs (test x) refl (prefix_ends test xs)
 
@@ -172,16 +172,22 @@ one_spelled bytes found (Some sign) own e =
     let same : ◌≡◌ {A = Found} (Sign sign, 1) found = cc in
     subst (Spelled bytes) same there
 
-two_spelled : (b c : ℕ) (bs : List ℕ) (found : Found) (two : Option Mark) → sign_of_two b c ≡ two → longer_sign two (sign_of_one b) ≡ Some found → Spelled (b ∷ c ∷ bs) found
-two_spelled b c bs found (Some sign) h e =
+two_spelled : (b c : ℕ) (bs : List ℕ) (found : Found) (two : Option Mark) → sign_of_two b c ≡ two → begins_comment b c ≡ false → longer_sign two (sign_of_one b) ≡ Some found → Spelled (b ∷ c ∷ bs) found
+two_spelled b c bs found (Some sign) h plain e =
     let there : Spelled (b ∷ c ∷ bs) (Sign sign, 2) = h in
     let same : ◌≡◌ {A = Found} (Sign sign, 2) found = cc in
     subst (Spelled (b ∷ c ∷ bs)) same there
-two_spelled b c bs found None h e = one_spelled (b ∷ c ∷ bs) found (sign_of_one b) (λ sign k. (k, h)) e
+two_spelled b c bs found None h plain e = one_spelled (b ∷ c ∷ bs) found (sign_of_one b) (λ sign k. (k, h, plain)) e
+
+unless : {A : Type 0} (t : Bool) (x : Option A) (y : A) → cond t None x ≡ Some y → (t ≡ false) × (x ≡ Some y)
+unless true x y e = cc
+unless false x y e = (refl, e)
 
 sign_spelled : (b : ℕ) (bs : List ℕ) (found : Found) → sign_at (b ∷ bs) ≡ Some found → Spelled (b ∷ bs) found
 sign_spelled b [] found e = one_spelled (b ∷ []) found (sign_of_one b) (λ sign k. k) e
-sign_spelled b (c ∷ bs) found e = two_spelled b c bs found (sign_of_two b c) refl e
+sign_spelled b (c ∷ bs) found e =
+    let plain = unless (begins_comment b c) (longer_sign (sign_of_two b c) (sign_of_one b)) found e in
+    two_spelled b c bs found (sign_of_two b c) refl plain.0 plain.1
 
 form_spelled : (bytes : List ℕ) (found : Found) → form_at bytes ≡ Some found → Spelled bytes found
 form_spelled [] found e = cc

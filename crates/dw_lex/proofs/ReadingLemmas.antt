@@ -1,9 +1,9 @@
 -- Reading on behind a part of the bytes.
-use Rattle.std.proofs.Common.{◌≡◌, ℕ, zero, suc, ◌+◌, ◌-◌, ◌<◌, ◌≤◌, true, false, Option, Some, None, Ok, Err, List, [], ◌∷◌, ◌++◌, length, drop, get_or, refl, sym, ◌∙◌, ap, subst, append_assoc, arith}
+use Rattle.std.proofs.Common.{◌≡◌, ℕ, zero, suc, ◌+◌, ◌-◌, ◌<◌, ◌≤◌, Option, Some, None, Ok, Err, List, [], ◌∷◌, ◌++◌, length, drop, refl, sym, ◌∙◌, ap, subst, append_assoc, arith}
 use Rattle.std.proofs.lemmas.List.{append-nil, drop_more, drop-drop, drop_all, length-drop}
-use Rattle.dw_lex.specs.Characters.{is_blank}
+use Rattle.dw_lex.specs.Gaps.{gap_at}
 use Rattle.dw_lex.specs.Forms.{token_at}
-use Rattle.dw_lex.specs.Reading.{Read, read_byte, read_from, with_first, token_of, Gives, GivesToken}
+use Rattle.dw_lex.specs.Reading.{Read, read_piece, read_from, with_first, token_of, Gives, GivesToken}
 use Rattle.dw_lex.specs.declared.token.Form.{Form}
 use Rattle.dw_lex.specs.declared.token.Token.{Token}
 use Rattle.dw_lex.specs.declared.fault.LexFault.{LexFault}
@@ -32,29 +32,37 @@ with_front-first : (front : List Token) (token : Token) (read : Read) → with_f
 with_front-first front token (Ok tokens) = ap Ok (sym (append_assoc front (token ∷ []) tokens))
 with_front-first front token (Err place) = refl
 
--- one byte is read at the place `at`
-read_from-byte : (bytes : List ℕ) (at : ℕ) → at < length bytes →
-    read_from (drop at bytes) at 0 ≡ read_byte (is_blank (get_or bytes at 0)) (token_at (drop at bytes)) at (λ inside. read_from (drop (at + 1) bytes) (at + 1) inside)
+-- one piece is read at the place `at`
+read_from-piece : (bytes : List ℕ) (at : ℕ) → at < length bytes →
+    read_from (drop at bytes) at 0 ≡ read_piece (gap_at (drop at bytes)) (token_at (drop at bytes)) at (λ inside. read_from (drop (at + 1) bytes) (at + 1) inside)
 unfolding read_from
-read_from-byte bytes at lt = let e = drop_more bytes at 0 lt in rw e refl
+read_from-piece bytes at lt = let e = drop_more bytes at 0 lt in rw e refl
 
-pub blank_more : (bytes : List ℕ) (at : ℕ) (front : List Token) (all : Read) → at < length bytes → is_blank (get_or bytes at 0) ≡ true
-    → with_front front (read_from (drop at bytes) at 0) ≡ all → with_front front (read_from (drop (at + 1) bytes) (at + 1) 0) ≡ all
-blank_more bytes at front all lt blank so_far =
-    let e : read_from (drop at bytes) at 0 ≡ read_from (drop (at + 1) bytes) (at + 1) 0 = read_from-byte bytes at lt ∙ ap (λ b. read_byte b (token_at (drop at bytes)) at (λ inside. read_from (drop (at + 1) bytes) (at + 1) inside)) blank in
+-- the bytes of a blank or a comment are passed over
+pub gap_more : (bytes : List ℕ) (at gap : ℕ) (front : List Token) (all : Read) → at < length bytes → 0 < gap → gap_at (drop at bytes) ≡ gap → at + gap ≤ length bytes
+    → with_front front (read_from (drop at bytes) at 0) ≡ all → with_front front (read_from (drop (at + gap) bytes) (at + gap) 0) ≡ all
+gap_more bytes at zero front all lt some found within so_far = absurd (omega arith)
+gap_more bytes at (suc inside) front all lt some found within so_far =
+    let rest : List ℕ = drop (at + 1) bytes in
+    let fits : inside ≤ length rest = omega (arith, length-drop (at + 1) bytes) in
+    let n : (at + 1) + inside ≡ at + suc inside = omega arith in
+    let d = drop-drop inside (at + 1) bytes in
+    let past : read_from rest (at + 1) inside ≡ read_from (drop (at + suc inside) bytes) (at + suc inside) 0 = read_from-inside rest (at + 1) inside fits ∙ rw (d, n) refl in
+    let e : read_from (drop at bytes) at 0 ≡ read_from (drop (at + suc inside) bytes) (at + suc inside) 0 =
+    read_from-piece bytes at lt ∙ ap (λ (gap : ℕ). read_piece gap (token_at (drop at bytes)) at (λ k. read_from rest (at + 1) k)) found ∙ past in
     rw e at so_far
 
-read_from-token : (bytes : List ℕ) (at : ℕ) (one : Form × List ℕ) → at < length bytes → is_blank (get_or bytes at 0) ≡ false
+read_from-token : (bytes : List ℕ) (at : ℕ) (one : Form × List ℕ) → at < length bytes → gap_at (drop at bytes) ≡ 0
     → token_at (drop at bytes) ≡ Some one → at < at + length one.1 → at + length one.1 ≤ length bytes
     → read_from (drop at bytes) at 0 ≡ with_first (token_of at one) (read_from (drop (at + length one.1) bytes) (at + length one.1) 0)
-read_from-token bytes at one lt blank found after within =
+read_from-token bytes at one lt gap found after within =
     let rest : List ℕ = drop (at + 1) bytes in
     let fits : length one.1 - 1 ≤ length rest = omega (arith, length-drop (at + 1) bytes) in
     let n : (at + 1) + (length one.1 - 1) ≡ at + length one.1 = omega arith in
     let d = drop-drop (length one.1 - 1) (at + 1) bytes in
     let past : read_from rest (at + 1) (length one.1 - 1) ≡ read_from (drop (at + length one.1) bytes) (at + length one.1) 0 =
     read_from-inside rest (at + 1) (length one.1 - 1) fits ∙ rw (d, n) refl in
-    read_from-byte bytes at lt ∙ (rw (blank, found) (ap (with_first (token_of at one)) past))
+    read_from-piece bytes at lt ∙ (rw (gap, found) (ap (with_first (token_of at one)) past))
 
 -- what a token's call returned, by what was found
 token_given : (token : Token) (place : ℕ) (found : Option (Form × List ℕ)) → GivesToken (Ok token) place found → (one : Form × List ℕ) × (found ≡ Some one) × (token ≡ token_of place one)
@@ -65,26 +73,26 @@ token_given token place (Some one) h = (one, refl, h)
 abbrev GoesOn : List ℕ → List Token → Read → Token → Type 0
 GoesOn bytes front all token = with_front (front ++ token ∷ []) (read_from (drop token.end bytes) token.end 0) ≡ all
 
-pub token_more : (bytes : List ℕ) (at : ℕ) (token : Token) (front : List Token) (all : Read) → at < length bytes → is_blank (get_or bytes at 0) ≡ false
+pub token_more : (bytes : List ℕ) (at : ℕ) (token : Token) (front : List Token) (all : Read) → at < length bytes → gap_at (drop at bytes) ≡ 0
     → GivesToken (Ok token) at (token_at (drop at bytes)) → at < token.end → token.end ≤ length bytes
     → with_front front (read_from (drop at bytes) at 0) ≡ all → GoesOn bytes front all token
-token_more bytes at token front all lt blank given after within so_far =
+token_more bytes at token front all lt gap given after within so_far =
     let g = token_given token at (token_at (drop at bytes)) given in
     by g.0 g.1 g.2
   where
     by : (one : Form × List ℕ) → token_at (drop at bytes) ≡ Some one → token ≡ token_of at one → GoesOn bytes front all token
     by one found same =
         let end : token.end ≡ at + length one.1 = ap (λ (t : Token). t.end) same in
-        let e = read_from-token bytes at one lt blank found (omega arith) (omega arith) in
+        let e = read_from-token bytes at one lt gap found (omega arith) (omega arith) in
         let goes : GoesOn bytes front all (token_of at one) =
         sym (with_front-first front (token_of at one) (read_from (drop (at + length one.1) bytes) (at + length one.1) 0)) ∙ (rw (← e) so_far) in
         subst (GoesOn bytes front all) (sym same) goes
 
-pub fault_ends : (fault : LexFault) (bytes : List ℕ) (at : ℕ) (front : List Token) (all : Read) → at < length bytes → is_blank (get_or bytes at 0) ≡ false
+pub fault_ends : (fault : LexFault) (bytes : List ℕ) (at : ℕ) (front : List Token) (all : Read) → at < length bytes → gap_at (drop at bytes) ≡ 0
     → GivesToken (Err fault) at (token_at (drop at bytes)) → with_front front (read_from (drop at bytes) at 0) ≡ all → Gives (Err fault) all
-fault_ends Memory bytes at front all lt blank given so_far = tt
-fault_ends (Foreign place) bytes at front all lt blank given so_far =
-    let e : read_from (drop at bytes) at 0 ≡ Err at = read_from-byte bytes at lt ∙ rw (blank, given.0) refl in
+fault_ends Memory bytes at front all lt gap given so_far = tt
+fault_ends (Foreign place) bytes at front all lt gap given so_far =
+    let e : read_from (drop at bytes) at 0 ≡ Err at = read_from-piece bytes at lt ∙ rw (gap, given.0) refl in
     sym so_far ∙ (rw e (ap Err (sym given.1)))
 
 pub all_read : (bytes : List ℕ) (at : ℕ) (front : List Token) (all : Read) → length bytes ≤ at → with_front front (read_from (drop at bytes) at 0) ≡ all → all ≡ Ok front

@@ -6,7 +6,7 @@ use Rattle.std.specs.Str.{IsUtf8}
 use Rattle.std.proofs.lemmas.Bool.{and_parts, le-leb, ne_eqb, eqb-true}
 use Rattle.std.proofs.lemmas.Bool.Decides.{nat_tests}
 use Rattle.std.proofs.lemmas.List.{take_at, drop_at, length-append}
-use Rattle.dw_lex.specs.Characters.{begins_name, is_in_name, quote, point}
+use Rattle.dw_lex.specs.Characters.{begins_name, is_in_name, quote, point, begins_comment}
 use Rattle.dw_lex.specs.Signs.{sign_of_one, sign_of_two}
 use Rattle.dw_lex.specs.Forms.{digits_at, number_at, text_end, sign_at, form_at, token_at}
 use Rattle.dw_lex.specs.Spelling.{EndsAt, IsName, IsDigits, IsNumber, whole, decimal, IsInside, nothing, other, quotes, IsWords, text, IsSign, IsToken}
@@ -19,7 +19,7 @@ prefix_len-end : (test : ℕ → Bool) (rest : List ℕ) → EndsAt test rest �
 prefix_len-end test [] e = refl
 prefix_len-end test (b ∷ bs) e = rw e refl
 
-prefix_len-whole : (test : ℕ → Bool) (xs rest : List ℕ) → list_all test xs ≡ true → EndsAt test rest → prefix_len test (xs ++ rest) ≡ length xs
+pub prefix_len-whole : (test : ℕ → Bool) (xs rest : List ℕ) → list_all test xs ≡ true → EndsAt test rest → prefix_len test (xs ++ rest) ≡ length xs
 prefix_len-whole test [] rest all e = prefix_len-end test rest e
 prefix_len-whole test (x ∷ xs) rest all e =
     let parts = and_parts (test x) (list_all test xs) all in
@@ -107,7 +107,10 @@ quote_no_sign b h = let e = eqb-true b quote h in rw e refl
 quote_no_longer : (b c : ℕ) → eqb b quote ≡ true → sign_of_two b c ≡ None
 quote_no_longer b c h = let e = eqb-true b quote h in rw e refl
 
-fails : {A : Type 0} (t : Bool) (found : Option A) (a : A) → (t ≡ true → found ≡ None) → found ≡ Some a → t ≡ false
+comment_no_longer : (b c : ℕ) → begins_comment b c ≡ true → sign_of_two b c ≡ None
+comment_no_longer b c h = grind (arith, nat_tests)
+
+pub fails : {A : Type 0} (t : Bool) (found : Option A) (a : A) → (t ≡ true → found ≡ None) → found ≡ Some a → t ≡ false
 fails true found a none some = let e = none refl in cc
 fails false found a none some = refl
 
@@ -131,8 +134,10 @@ sign_first b bs h = let x = h.0 in let y = h.1 in let z = h.2 in rw (x, y, z) re
 sign_found : (sign : Mark) (word rest : List ℕ) → IsSign sign word rest → form_at (word ++ rest) ≡ Some (Sign sign, length word)
 sign_found sign [] rest h = absurd h
 sign_found sign (b ∷ []) [] h = sign_first b [] (one_other b sign h) ∙ rw h refl
-sign_found sign (b ∷ []) (c ∷ rest) h = let one = h.0 in let two = h.1 in sign_first b (c ∷ rest) (one_other b sign one) ∙ rw (two, one) refl
-sign_found sign (b ∷ c ∷ []) rest h = sign_first b (c ∷ rest) (two_other b c sign h) ∙ rw h refl
+sign_found sign (b ∷ []) (c ∷ rest) h = let one = h.0 in let two = h.1 in let plain = h.2 in sign_first b (c ∷ rest) (one_other b sign one) ∙ rw (plain, two, one) refl
+sign_found sign (b ∷ c ∷ []) rest h =
+    let plain = fails (begins_comment b c) (sign_of_two b c) sign (comment_no_longer b c) h in
+    sign_first b (c ∷ rest) (two_other b c sign h) ∙ rw (plain, h) refl
 sign_found sign (b ∷ c ∷ d ∷ bs) rest h = absurd h
 
 form_found : (form : Form) (word rest : List ℕ) → IsToken form word rest → form_at (word ++ rest) ≡ Some (form, length word)

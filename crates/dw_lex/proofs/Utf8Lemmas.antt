@@ -17,7 +17,7 @@ use Rattle.dw_lex.specs.declared.token.Form.{Form}
 use Rattle.dw_lex.specs.declared.token.Form.TheVariants.{Name, Number, Words, Sign}
 
 -- a front that ends in an ASCII character
-IsUtf8-front : (xs rest : List ℕ) (b : ℕ) → b < 128 → IsUtf8 (xs ++ b ∷ rest) → IsUtf8 (xs ++ b ∷ [])
+pub IsUtf8-front : (xs rest : List ℕ) (b : ℕ) → b < 128 → IsUtf8 (xs ++ b ∷ rest) → IsUtf8 (xs ++ b ∷ [])
 IsUtf8-front xs rest b small u =
     let bytes : List ℕ = xs ++ b ∷ rest in
     let at : get_or bytes (length xs) 0 ≡ b = get_or-append_seam xs b rest 0 in

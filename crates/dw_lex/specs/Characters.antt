@@ -1,8 +1,8 @@
 -- Which characters tokens are made of. All of them are ASCII; a byte is given by its number.
-use Rattle.std.specs.Prelude.{ℕ, Bool, ◌==◌, ◌||◌}
+use Rattle.std.specs.Prelude.{ℕ, Bool, ◌==◌, ◌&&◌, ◌||◌}
 use Rattle.std.specs.Char.{is_ascii_alphabetic, is_ascii_digit}
 
--- a space, a tab, LF or CR: what may stand between tokens
+-- a space, a tab, LF or CR: what may stand between tokens, as comments may
 abbrev pub is_blank : ℕ → Bool
 is_blank b = (b == 32) || (b == 9) || (b == 10) || (b == 13)
 
@@ -21,3 +21,22 @@ quote = 39
 -- the point of a number
 abbrev pub point : ℕ
 point = 46
+
+-- two of them begin a comment to the end of the line
+abbrev pub dash : ℕ
+dash = 45
+
+-- what ends a line
+abbrev pub line_feed : ℕ
+line_feed = 10
+
+-- with a star behind it it begins a block comment, and with a star before it it ends one
+abbrev pub slash : ℕ
+slash = 47
+
+abbrev pub star : ℕ
+star = 42
+
+-- `--` and `/*`
+abbrev pub begins_comment : ℕ → ℕ → Bool
+begins_comment b c = ((b == dash) && (c == dash)) || ((b == slash) && (c == star))

@@ -4,7 +4,7 @@ use Rattle.std.specs.Prelude.{ℕ, ◌+◌, Bool, false, ◌==◌, ◌&&◌, not
 use Rattle.std.specs.List.{prefix_len}
 use Rattle.std.specs.Char.{is_ascii_digit}
 use Rattle.std.specs.Str.{is_utf8}
-use Rattle.dw_lex.specs.Characters.{begins_name, is_in_name, quote, point}
+use Rattle.dw_lex.specs.Characters.{begins_name, is_in_name, quote, point, begins_comment}
 use Rattle.dw_lex.specs.Signs.{sign_of_one, sign_of_two}
 use Rattle.dw_lex.specs.declared.signs.Sign.{Sign as Mark}
 use Rattle.dw_lex.specs.declared.token.Form.{Form}
@@ -48,7 +48,7 @@ text_end (b ∷ bs) pending passed =
 abbrev pub words_at : List ℕ → Option Found
 words_at inside = option_map (λ long. (Words, long)) (text_end inside false 1)
 
--- a sign, of two characters where there is such a one
+-- a sign, of two characters where there is such a one, and none where a comment begins
 abbrev pub longer_sign : Option Mark → Option Mark → Option Found
 longer_sign (Some sign) one = Some (Sign sign, 2)
 longer_sign None one = option_map (λ sign. (Sign sign, 1)) one
@@ -56,7 +56,7 @@ longer_sign None one = option_map (λ sign. (Sign sign, 1)) one
 abbrev pub sign_at : List ℕ → Option Found
 sign_at [] = None
 sign_at (b ∷ []) = longer_sign None (sign_of_one b)
-sign_at (b ∷ c ∷ bs) = longer_sign (sign_of_two b c) (sign_of_one b)
+sign_at (b ∷ c ∷ bs) = if begins_comment b c then None else longer_sign (sign_of_two b c) (sign_of_one b)
 
 -- the token at the front, told by its first character
 abbrev pub form_at : List ℕ → Option Found

@@ -1,4 +1,5 @@
 pub mod Characters
+pub mod Gaps
 pub mod Forms
 pub mod Signs
 pub mod Reading

@@ -1,6 +1,6 @@
 -- The tokens of a statement.
-use Rattle.std.specs.Prelude.{◌≡◌, ℕ, suc, zero, ◌+◌, ◌-◌, Bool, true, false, Option, Some, None, Result, Ok, Err, List, [], ◌∷◌, length}
-use Rattle.dw_lex.specs.Characters.{is_blank}
+use Rattle.std.specs.Prelude.{◌≡◌, ℕ, suc, zero, ◌+◌, ◌-◌, Option, Some, None, Result, Ok, Err, List, [], ◌∷◌, length}
+use Rattle.dw_lex.specs.Gaps.{gap_at}
 use Rattle.dw_lex.specs.Forms.{token_at}
 use Rattle.dw_lex.specs.declared.token.Form.{Form}
 use Rattle.dw_lex.specs.declared.token.Token.{Token}
@@ -20,19 +20,20 @@ abbrev pub with_first : Token → Read → Read
 with_first token (Ok tokens) = Ok (token ∷ tokens)
 with_first token (Err place) = Err place
 
--- A blank stands for nothing, a token for itself, and anything else is foreign at its place. `rest inside` is what is read from
--- the next byte on, of which so many still belong to the token.
-abbrev pub read_byte : Bool → Option (Form × List ℕ) → ℕ → (ℕ → Read) → Read
-read_byte true found place rest = rest 0
-read_byte false None place rest = Err place
-read_byte false (Some found) place rest = with_first (token_of place found) (rest (length found.1 - 1))
+-- A blank or a comment stands for nothing, a token for itself, and anything else is foreign at its place. `gap` is how many bytes
+-- the blank or comment takes, and `rest inside` is what is read from the next byte on, of which so many still belong to what
+-- began here.
+abbrev pub read_piece : ℕ → Option (Form × List ℕ) → ℕ → (ℕ → Read) → Read
+read_piece (suc inside) found place rest = rest inside
+read_piece zero None place rest = Err place
+read_piece zero (Some found) place rest = with_first (token_of place found) (rest (length found.1 - 1))
 
--- what is read of bytes from a place of the statement on, of which the first `inside` belong to the token before
+-- what is read of bytes from a place of the statement on, of which the first `inside` belong to the token or comment before
 unfoldable pub read_from : List ℕ → ℕ → ℕ → Read
 read_from [] place inside = Ok []
 read_from (b ∷ bs) place (suc inside) = read_from bs (place + 1) inside
 read_from (b ∷ bs) place zero =
-    read_byte (is_blank b) (token_at (b ∷ bs)) place (λ inside. read_from bs (place + 1) inside)
+    read_piece (gap_at (b ∷ bs)) (token_at (b ∷ bs)) place (λ inside. read_from bs (place + 1) inside)
 
 -- the tokens of a statement, or the first place where none begins
 abbrev pub read_tokens : List ℕ → Read

@@ -3,7 +3,7 @@
 use Rattle.std.specs.Prelude.{◌≡◌, ℕ, ◌+◌, ◌<◌, ◌≤◌, Bool, true, false, ◌==◌, Some, None, List, [], ◌∷◌, ◌++◌, length}
 use Rattle.std.specs.List.{list_all}
 use Rattle.std.specs.Char.{is_ascii_digit}
-use Rattle.dw_lex.specs.Characters.{begins_name, is_in_name, quote, point}
+use Rattle.dw_lex.specs.Characters.{begins_name, is_in_name, quote, point, begins_comment}
 use Rattle.dw_lex.specs.Forms.{fraction_at}
 use Rattle.dw_lex.specs.Signs.{sign_of_one, sign_of_two}
 use Rattle.dw_lex.specs.declared.signs.Sign.{Sign as Mark}
@@ -44,11 +44,11 @@ pub data IsInside : List ℕ → Type 0 where
 pub data IsWords : List ℕ → List ℕ → Type 0 where
   text : (inside rest : List ℕ) → IsInside inside → EndsAt (λ b. b == quote) rest → IsWords (quote ∷ inside ++ quote ∷ []) rest
 
--- A sign: of two characters, or of one that makes no sign of two with the character behind it.
+-- A sign: of two characters, or of one that with the character behind it makes no sign of two and begins no comment.
 abbrev pub IsSign : Mark → List ℕ → List ℕ → Type 0
 IsSign sign [] rest = ⊥
 IsSign sign (b ∷ []) [] = sign_of_one b ≡ Some sign
-IsSign sign (b ∷ []) (c ∷ rest) = (sign_of_one b ≡ Some sign) × (sign_of_two b c ≡ None)
+IsSign sign (b ∷ []) (c ∷ rest) = (sign_of_one b ≡ Some sign) × (sign_of_two b c ≡ None) × (begins_comment b c ≡ false)
 IsSign sign (b ∷ c ∷ []) rest = sign_of_two b c ≡ Some sign
 IsSign sign (b ∷ c ∷ d ∷ bs) rest = ⊥
 

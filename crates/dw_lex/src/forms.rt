@@ -1,22 +1,16 @@
 ghost use Rattle.std.specs.Prelude.{◌≡◌, ◌≤◌, ◌+◌, ◌<◌, false, length, take, IfSome, option_map};
 ghost use Rattle.std.specs.List.{prefix_len};
 ghost use Rattle.std.specs.Option.{option_copied};
-ghost use Rattle.dw_lex.specs.Characters.{is_blank, begins_name, is_in_name};
+ghost use Rattle.dw_lex.specs.Characters.{begins_name, is_in_name};
 ghost use Rattle.dw_lex.specs.Forms.{name_at, digits_at, fraction_at, number_at, text_end, words_at, sign_at, form_at, token_at};
 
+use crate::gaps::begins_comment;
 use crate::signs::{sign_of_one, sign_of_two};
 use crate::token::Form;
 
 const MAX_NAME: usize = 127;
 
 const MAX_DIGITS: usize = 38;
-
-/// Whether the byte may stand between tokens.
-pub fn is_blank(byte: u8) -> bool
-    ensures { result ≡ is_blank byte }
-{
-    matches!(byte, b' ' | b'\t' | b'\n' | b'\r')
-}
 
 fn begins_name(byte: u8) -> bool
     ensures { result ≡ begins_name byte }
@@ -108,10 +102,13 @@ fn sign_at(bytes: &[u8]) -> Option<(Form, usize)>
     ensures within { IfSome result (λ found. found.1 ≤ length bytes.now) }
 {
     let first = *bytes.first()?;
-    if let [_, second, ..] = bytes
-        && let Some(sign) = sign_of_two(first, *second)
-    {
-        return Some((Form::Sign(sign), 2));
+    if let [_, second, ..] = bytes {
+        if begins_comment(first, *second) {
+            return None;
+        }
+        if let Some(sign) = sign_of_two(first, *second) {
+            return Some((Form::Sign(sign), 2));
+        }
     }
     let sign = sign_of_one(first)?;
     Some((Form::Sign(sign), 1))

@@ -1,8 +1,9 @@
 //! Laws of the lexical rules: calls that do nothing, whose contracts speak of all bytes.
-ghost use Rattle.std.specs.Prelude.{◌≡◌, ℕ, true, Some, List, ◌∷◌, ◌++◌};
+ghost use Rattle.std.specs.Prelude.{◌≡◌, ℕ, ◌<◌, true, Some, List, [], ◌∷◌, ◌++◌, length};
 ghost use Rattle.std.specs.Str.{IsUtf8};
 ghost use Rattle.dw_lex.specs.Characters.{is_blank};
 ghost use Rattle.dw_lex.specs.Forms.{token_at};
+ghost use Rattle.dw_lex.specs.Gaps.{gap_at, IsComment, IsGap};
 ghost use Rattle.dw_lex.specs.Spelling.{IsToken};
 ghost use Rattle.dw_lex.specs.declared.token.Form.{Form};
 
@@ -20,4 +21,19 @@ pub fn spelled_tokens_are_read()
 pub fn read_tokens_are_spelled()
     ensures { (bytes : List ℕ) (form : Form) (word : List ℕ) → token_at bytes ≡ Some (form, word) →
         (rest : List ℕ) × (bytes ≡ word ++ rest) × IsToken form word rest × IsUtf8 word }
+{}
+
+/// What is spelled as a blank or a comment at the front of bytes is passed over there, whatever it holds, and no token is
+/// spelled there. Where all bytes are UTF-8, those behind it are.
+pub fn spelled_gaps_are_passed()
+    ensures blank { (b : ℕ) (rest : List ℕ) → is_blank b ≡ true → gap_at (b ∷ rest) ≡ 1 }
+    ensures comment { (word rest : List ℕ) → IsComment word rest → gap_at (word ++ rest) ≡ length word }
+    ensures no_token { (form : Form) (word rest : List ℕ) → IsToken form word rest → gap_at (word ++ rest) ≡ 0 }
+    ensures utf8 { (word rest : List ℕ) → IsComment word rest → IsUtf8 (word ++ rest) → IsUtf8 rest }
+{}
+
+/// What is passed over at the front of bytes is spelled as a blank or a comment.
+pub fn read_gaps_are_spelled()
+    ensures { (bytes : List ℕ) → 0 < gap_at bytes →
+        (gap : List ℕ) × (rest : List ℕ) × (bytes ≡ gap ++ rest) × (length gap ≡ gap_at bytes) × IsGap gap rest }
 {}

@@ -1,11 +1,12 @@
 //! The tokens of a statement: names, numbers, texts in quotes and signs, each with its place.
 //!
-//! The rules are this project's profile of the lexical structure in the Amazon Redshift guide and the SQL standard. Comments
-//! and quoted names are not read yet.
+//! The rules are this project's profile of the lexical structure in the Amazon Redshift guide and the SQL standard. Quoted
+//! names are not read yet.
 #![tactic(auto)]
 
 mod fault;
 mod forms;
+mod gaps;
 mod laws;
 mod meaning;
 mod reading;
@@ -13,7 +14,10 @@ mod signs;
 mod token;
 
 pub use fault::LexFault;
-pub use laws::{read_tokens_are_spelled, spelled_tokens_are_read};
+pub use laws::{
+    read_gaps_are_spelled, read_tokens_are_spelled, spelled_gaps_are_passed,
+    spelled_tokens_are_read,
+};
 pub use reading::tokens;
 pub use signs::Sign;
 pub use token::{Form, Token};

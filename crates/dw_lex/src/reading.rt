@@ -4,7 +4,8 @@ ghost use Rattle.dw_lex.specs.Places.{IsSlice, AreInOrder};
 ghost use Rattle.dw_lex.specs.Reading.{read_tokens, Gives, GivesToken};
 
 use crate::fault::LexFault;
-use crate::forms::{is_blank, token_at};
+use crate::forms::token_at;
+use crate::gaps::gap_at;
 use crate::token::Token;
 use dw_value::{List, Text};
 use std::alloc::Global;
@@ -31,22 +32,24 @@ fn token(alloc: Global, text: &[u8], start: usize) -> Result<Token, LexFault>
     })
 }
 
-/// The tokens of a text, in order. A token is the longest that can be read at its place, and spaces, tabs, line feeds
-/// and carriage returns may stand around it.
+/// The tokens of a text, in order. A token is the longest that can be read at its place, and blanks and comments may stand
+/// around it. Spaces, tabs, line feeds and carriage returns are blanks. A comment is from `--` to the end of the line or
+/// from `/*` to `*/`, and these nest; it begins wherever a token could, as in `a--b` and in `1/* */`.
 ///
-/// `Foreign` has the first place where no token begins: another character stands there, or a name of more than 127
-/// bytes, a number of more than 38 digits, or a text that isn't closed or isn't UTF-8. Each token's text is a copy of its
-/// own.
+/// `Foreign` has the first place where neither begins: another character stands there, or a name of more than 127
+/// bytes, a number of more than 38 digits, a text that isn't closed or isn't UTF-8, or the `/*` of a comment that isn't
+/// closed. Each token's text is a copy of its own.
 pub fn tokens(alloc: Global, text: &[u8]) -> Result<List<Token>, LexFault>
     ensures read { Gives result (read_tokens text.now) }
-    // The tokens are slices of the text, in order, and nothing but blanks is left out.
+    // The tokens are slices of the text, in order, and nothing but blanks and comments is left out.
     ensures places { IfOk result (λ tokens. AreInOrder text.now 0 tokens (length text.now)) }
 {
     let mut tokens = List::new(alloc);
     let mut at = 0;
     while at < text.len() {
-        if is_blank(text[at]) {
-            at += 1;
+        let gap = gap_at(&text[at..]);
+        if gap > 0 {
+            at += gap;
         } else {
             let token = token(alloc, text, at)?;
             at = token.end as usize;

@@ -59,8 +59,8 @@ fn tokens_are_the_longest_at_their_place(rt: HostRuntime) -> Result<(), Fail> {
             "Sign(Open) 0 1;Sign(Close) 1 2;Sign(Comma) 2 3;Sign(Dot) 3 4;Sign(Plus) 4 5;",
         ),
         (
-            "--*/%",
-            "Sign(Minus) 0 1;Sign(Minus) 1 2;Sign(Star) 2 3;Sign(Slash) 3 4;Sign(Percent) 4 5;",
+            "- -*/%",
+            "Sign(Minus) 0 1;Sign(Minus) 2 3;Sign(Star) 3 4;Sign(Slash) 4 5;Sign(Percent) 5 6;",
         ),
         (
             "=<>!=",
@@ -71,8 +71,8 @@ fn tokens_are_the_longest_at_their_place(rt: HostRuntime) -> Result<(), Fail> {
             "Sign(Less) 0 1;Sign(AtMost) 2 4;Sign(Greater) 4 5;Sign(AtLeast) 5 7;",
         ),
         (
-            "||::/*",
-            "Sign(Join) 0 2;Sign(Cast) 2 4;Sign(Slash) 4 5;Sign(Star) 5 6;",
+            "||::/ *",
+            "Sign(Join) 0 2;Sign(Cast) 2 4;Sign(Slash) 4 5;Sign(Star) 6 7;",
         ),
     ] {
         let line = shown(rt.alloc(), text.as_bytes())?;
@@ -80,6 +80,36 @@ fn tokens_are_the_longest_at_their_place(rt: HostRuntime) -> Result<(), Fail> {
     }
     assert_eq!(rt; shown(rt.alloc(), b"'\xc3'")?.as_str(), "foreign 0");
     assert_eq!(rt; shown(rt.alloc(), b"'\xc3\xa9'")?.as_str(), "Words 0 4;");
+    Ok(())
+}
+
+#[test]
+fn comments_stand_between_tokens(rt: HostRuntime) -> Result<(), Fail> {
+    for (text, expected) in [
+        ("--", ""),
+        ("-- a\n b--c", "Name 6 7;"),
+        ("--a\r\nb", "Name 5 6;"),
+        ("a--b\nc", "Name 0 1;Name 5 6;"),
+        ("/**/a/* */b/*c*/", "Name 4 5;Name 10 11;"),
+        ("1/* . */.5", "Number 0 1;Sign(Dot) 8 9;Number 9 10;"),
+        ("/* /* */ ' \" -- */a", "Name 18 19;"),
+        ("/*/**/*/a", "Name 8 9;"),
+        ("/***/a", "Name 5 6;"),
+        ("-- /*\na", "Name 6 7;"),
+        ("/* é */a", "Name 8 9;"),
+        ("'--' '/*'", "Words 0 4;Words 5 9;"),
+        ("--->", ""),
+        ("-/**/-", "Sign(Minus) 0 1;Sign(Minus) 5 6;"),
+        ("</**/>", "Sign(Less) 0 1;Sign(Greater) 5 6;"),
+        ("a*/", "Name 0 1;Sign(Star) 1 2;Sign(Slash) 2 3;"),
+        ("a /*", "foreign 2"),
+        ("a /*/", "foreign 2"),
+        ("/* /* */ a", "foreign 0"),
+        ("/**/ \"", "foreign 5"),
+    ] {
+        let line = shown(rt.alloc(), text.as_bytes())?;
+        assert_eq!(rt; line.as_str(), expected, "{text}");
+    }
     Ok(())
 }
 

@@ -1,10 +1,9 @@
 -- The grammar and the reading of statements agree.
-use Rattle.std.proofs.Common.{◌≡◌, ℕ, zero, suc, ◌+◌, ◌<◌, ◌≤◌, ◌⊎◌, inl, inr, Bool, true, false, ◌&&◌, if◌then◌else◌, Option, Some, None, List, [], ◌∷◌, length, refl, sym, ◌∙◌, ap, subst, arith}
-use Rattle.std.specs.Prelude.{nat_eq, slice_get, codes, ◌==◌, nat_le, pos, neg_ℤ}
+use Rattle.std.proofs.Common.{◌≡◌, ℕ, zero, suc, ◌+◌, ◌<◌, ◌≤◌, ◌⊎◌, inl, inr, Bool, true, false, ◌&&◌, if◌then◌else◌, Option, Some, None, List, [], ◌∷◌, length, refl, sym, ◌∙◌, subst, arith}
+use Rattle.std.specs.Prelude.{nat_eq, slice_get, codes, pos, neg_ℤ}
 use Rattle.std.specs.Option.{option_map, option_and_then}
 use Rattle.std.specs.Cmp.Lexicographic.{pointwise, bytes_decides}
 use Rattle.std.proofs.lemmas.Option.{slice_get_within}
-use Rattle.std.proofs.lemmas.Bool.{eqb-true, eq-eqb}
 use Rattle.dw_lex.specs.Meaning.{folded}
 use Rattle.dw_lex.specs.declared.signs.Sign.{Sign as Mark}
 use Rattle.dw_lex.specs.declared.signs.Sign.TheVariants as mark
@@ -17,7 +16,7 @@ use Rattle.dw_value.specs.declared.values.Row.{Row}
 use Rattle.dw_value.specs.declared.values.Value.{Value}
 use Rattle.dw_value.specs.declared.values.Value.TheVariants as value
 use Rattle.dw_model.specs.declared.statements.ColumnSpec.{ColumnSpec}
-use Rattle.dw_parse.specs.Words.{is_name, sign_of, says, says_in, literal_in, literal_of, number_of, name_of, is_open, is_close, is_comma, is_dot, is_minus, comparison_of, in_length, word_at, sign_at, name_at, number_at, literal_at}
+use Rattle.dw_parse.specs.Words.{is_name, sign_of, says_in, literal_in, literal_of, number_of, name_of, is_open, is_close, is_comma, is_dot, is_minus, in_length, word_at, sign_at, name_at, number_at, literal_at}
 use Rattle.dw_parse.specs.Reading.{goes_on, listed_within, listed_at, table_at, kind_at, varchar_of, column_of, column_at, item_at, closed_row, tuple_at, named_at}
 use Rattle.dw_parse.specs.Grammar.{Listed, one, more, IsNamed, named, IsTable, alone, public, IsKind, integer, varchar, IsColumn, column, IsItem, literal, negative, IsTuple, tuple}
 

@@ -1,9 +1,9 @@
 -- Reading on behind the first of several that commas part.
-use Rattle.std.proofs.Common.{◌≡◌, ℕ, zero, suc, ◌+◌, ◌<◌, ◌≤◌, Bool, true, false, Option, Some, None, List, [], ◌∷◌, ◌++◌, length, refl, sym, ◌∙◌, ap, append_assoc, arith}
+use Rattle.std.proofs.Common.{◌≡◌, ℕ, zero, suc, ◌+◌, ◌<◌, ◌≤◌, true, false, Option, Some, None, List, [], ◌∷◌, ◌++◌, length, refl, sym, ◌∙◌, ap, append_assoc, arith}
 use Rattle.std.specs.Option.{option_map}
 use Rattle.dw_lex.specs.declared.token.Token.{Token}
 use Rattle.dw_parse.specs.Words.{is_comma, sign_at}
-use Rattle.dw_parse.specs.Reading.{goes_on, listed_within, listed_at}
+use Rattle.dw_parse.specs.Reading.{listed_within, listed_at}
 
 -- those so far, and those behind them
 abbrev pub with_front : {A : Type 0} → List A → Option (List A × ℕ) → Option (List A × ℕ)

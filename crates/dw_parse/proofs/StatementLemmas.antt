@@ -1,7 +1,8 @@
 -- Tokens derive just the statement that they read as.
-use Rattle.std.proofs.Common.{◌≡◌, ℕ, zero, suc, ◌+◌, ◌<◌, ◌≤◌, ◌⊎◌, inl, inr, Bool, true, false, ◌&&◌, if◌then◌else◌, Option, Some, None, List, [], ◌∷◌, length, refl, sym, ◌∙◌, ap, subst, arith}
+use Rattle.std.proofs.Common.{◌≡◌, ℕ, suc, ◌+◌, ◌⊎◌, inl, inr, Bool, true, false, ◌&&◌, ◌||◌, if◌then◌else◌, Option, Some, None, List, length, refl, sym, ◌∙◌, ap, subst, arith}
 use Rattle.std.specs.Prelude.{nat_eq, slice_get, codes, ◌==◌, nat_le}
 use Rattle.std.specs.Option.{option_map, option_and_then}
+use Rattle.std.specs.Cmp.Lexicographic.{pointwise, bytes_decides}
 use Rattle.std.proofs.lemmas.Option.{slice_get_past}
 use Rattle.std.proofs.lemmas.Bool.{eqb-true, eq-eqb, leb-true, le-leb}
 use Rattle.dw_lex.specs.Meaning.{folded}
@@ -11,16 +12,14 @@ use Rattle.dw_lex.specs.declared.token.Form.{Form}
 use Rattle.dw_lex.specs.declared.token.Form.TheVariants as form
 use Rattle.dw_lex.specs.declared.token.Token.{Token}
 use Rattle.dw_value.specs.declared.kinds.Comparison.{Comparison}
-use Rattle.dw_value.specs.declared.values.Row.{Row}
-use Rattle.dw_value.specs.declared.values.Value.{Value}
 use Rattle.dw_model.specs.declared.statements.ColumnSpec.{ColumnSpec}
 use Rattle.dw_model.specs.declared.statements.Test.{Test}
 use Rattle.dw_model.specs.declared.statements.Statement.{Statement}
-use Rattle.dw_model.specs.declared.statements.Statement.TheVariants.{Create, Insert, Select}
+use Rattle.dw_model.specs.declared.statements.Statement.TheVariants.{Begin, Commit, Rollback, Create, Insert, Select}
 use Rattle.dw_parse.specs.Words.{is_name, sign_of, says_in, is_open, is_close, is_comma, is_dot, comparison_of, word_at, sign_at, name_at}
-use Rattle.dw_parse.specs.Reading.{listed_at, table_at, column_at, item_at, tuple_at, named_at, created, create_behind, read_create, inserted, insert_behind, read_insert, tested, test_at, condition_at, selected, select_behind, read_select, read_statement}
-use Rattle.dw_parse.specs.Grammar.{Listed, IsNamed, IsTable, IsColumn, IsItem, IsTuple, IsCondition, absent, where_is, Derives, create, insert, select}
-use Rattle.dw_parse.proofs.GrammarLemmas.{Spans, and_both, heads, one_word, if_some, if_either, map_some, bind_some, close_comma, listed_sound, listed_at_complete, named_spans, named_complete, named_sound, table_complete, table_sound, column_spans, column_complete, column_sound, items_spans, item_complete, item_sound, tuple_spans, tuple_complete, tuple_sound}
+use Rattle.dw_parse.specs.Reading.{listed_at, table_at, column_at, item_at, tuple_at, named_at, created, create_behind, read_create, inserted, insert_behind, read_insert, tested, test_at, condition_at, selected, select_behind, read_select, is_rest, block_word, read_block, read_statement}
+use Rattle.dw_parse.specs.Grammar.{IsNamed, IsColumn, IsTuple, IsCondition, absent, where_is, IsRest, ended, transaction, work, Derives, begin, start, commit, end, rollback, abort, create, insert, select}
+use Rattle.dw_parse.proofs.GrammarLemmas.{Spans, and_both, heads, one_word, if_some, if_either, map_some, bind_some, close_comma, listed_sound, listed_at_complete, named_spans, named_complete, named_sound, table_complete, table_sound, column_spans, column_complete, column_sound, item_complete, item_sound, tuple_spans, tuple_complete, tuple_sound}
 
 -- where a word stands, and behind the last token, is no sign
 sign_form : (f : Form) (b : Bool) → (is_name f && b) ≡ true → sign_of f ≡ None
@@ -81,18 +80,76 @@ names_spans tokens i j a h = named_spans tokens h
 names_complete : (tokens : List Token) (i j : ℕ) (a : List ℕ) → IsNamed tokens i a j → named_at tokens i ≡ Some (a, j)
 names_complete tokens i j a h = named_complete tokens h
 
+-- a token is one word alone
+apart : (a b : List ℕ) → pointwise nat_eq (folded a) (folded b) ≡ false → folded a ≡ folded b → ⊥
+apart a b other e = let same = (bytes_decides (folded a) (folded b)).1 e in cc
+
+only : (a b : List ℕ) (tokens : List Token) → pointwise nat_eq (folded a) (folded b) ≡ false → word_at a tokens 0 ≡ true → word_at b tokens 0 ≡ false
+only a b tokens other w = one_word a b tokens 0 (apart a b other) w
+
+-- what may stand behind the first word of a block's statement
+or_right : (a b : Bool) → b ≡ true → a || b ≡ true
+or_right true b e = refl
+or_right false b e = e
+
+rest_complete : (tokens : List Token) {i : ℕ} → IsRest tokens i → is_rest tokens i ≡ true
+rest_complete tokens (ended {i} e) = let same = eq-eqb i (length tokens) e in rw same refl
+rest_complete tokens (transaction {i} w e) =
+    let same = eq-eqb (i + 1) (length tokens) e in
+    or_right (i == length tokens) ((word_at (codes "transaction") tokens i || word_at (codes "work") tokens i) && (i + 1 == length tokens)) (rw (w, same) refl)
+rest_complete tokens (work {i} w e) =
+    let same = eq-eqb (i + 1) (length tokens) e in
+    let said = or_right (word_at (codes "transaction") tokens i) (word_at (codes "work") tokens i) w in
+    or_right (i == length tokens) ((word_at (codes "transaction") tokens i || word_at (codes "work") tokens i) && (i + 1 == length tokens)) (rw (said, same) refl)
+
+-- a first word of which no other statement begins
+no_other : (tokens : List Token) → word_at (codes "create") tokens 0 ≡ false → word_at (codes "insert") tokens 0 ≡ false → word_at (codes "select") tokens 0 ≡ false → read_statement tokens ≡ read_block tokens
+no_other tokens c i s = rw (c, i, s) refl
+
+block_read : (tokens : List Token) (s : Statement) → word_at (codes "start") tokens 0 ≡ false → IsRest tokens 1 → block_word tokens ≡ Some s → read_block tokens ≡ Some s
+block_read tokens s not_start rest said = let whole = rest_complete tokens rest in rw (not_start, whole) said
+
 pub derives_read : (tokens : List Token) (statement : Statement) → Derives tokens statement → read_statement tokens ≡ Some statement
-derives_read tokens statement (create {i} {j} {name} {columns} w t table o list c end few) =
+derives_read tokens statement (begin w rest) =
+    no_other tokens (only (codes "begin") (codes "create") tokens refl w) (only (codes "begin") (codes "insert") tokens refl w) (only (codes "begin") (codes "select") tokens refl w)
+    ∙ block_read tokens Begin (only (codes "begin") (codes "start") tokens refl w) rest (rw w refl)
+derives_read tokens statement (start w t count) =
+    let two : length tokens == 2 ≡ true = eq-eqb (length tokens) 2 count in
+    no_other tokens (only (codes "start") (codes "create") tokens refl w) (only (codes "start") (codes "insert") tokens refl w) (only (codes "start") (codes "select") tokens refl w)
+    ∙ rw (w, t, two) refl
+derives_read tokens statement (commit w rest) =
+    let no_begin = only (codes "commit") (codes "begin") tokens refl w in
+    no_other tokens (only (codes "commit") (codes "create") tokens refl w) (only (codes "commit") (codes "insert") tokens refl w) (only (codes "commit") (codes "select") tokens refl w)
+    ∙ block_read tokens Commit (only (codes "commit") (codes "start") tokens refl w) rest (rw (no_begin, w) refl)
+derives_read tokens statement (end w rest) =
+    let no_begin = only (codes "end") (codes "begin") tokens refl w in
+    let no_commit = only (codes "end") (codes "commit") tokens refl w in
+    no_other tokens (only (codes "end") (codes "create") tokens refl w) (only (codes "end") (codes "insert") tokens refl w) (only (codes "end") (codes "select") tokens refl w)
+    ∙ block_read tokens Commit (only (codes "end") (codes "start") tokens refl w) rest (rw (no_begin, no_commit, w) refl)
+derives_read tokens statement (rollback w rest) =
+    let no_begin = only (codes "rollback") (codes "begin") tokens refl w in
+    let no_commit = only (codes "rollback") (codes "commit") tokens refl w in
+    let no_end = only (codes "rollback") (codes "end") tokens refl w in
+    no_other tokens (only (codes "rollback") (codes "create") tokens refl w) (only (codes "rollback") (codes "insert") tokens refl w) (only (codes "rollback") (codes "select") tokens refl w)
+    ∙ block_read tokens Rollback (only (codes "rollback") (codes "start") tokens refl w) rest (rw (no_begin, no_commit, no_end, w) refl)
+derives_read tokens statement (abort w rest) =
+    let no_begin = only (codes "abort") (codes "begin") tokens refl w in
+    let no_commit = only (codes "abort") (codes "commit") tokens refl w in
+    let no_end = only (codes "abort") (codes "end") tokens refl w in
+    let no_rollback = only (codes "abort") (codes "rollback") tokens refl w in
+    no_other tokens (only (codes "abort") (codes "create") tokens refl w) (only (codes "abort") (codes "insert") tokens refl w) (only (codes "abort") (codes "select") tokens refl w)
+    ∙ block_read tokens Rollback (only (codes "abort") (codes "start") tokens refl w) rest (rw (no_begin, no_commit, no_end, no_rollback, w) refl)
+derives_read tokens statement (create {i} {j} {name} {columns} w t table o list c last few) =
     let e = table_complete tokens table (open_dot (sign_at tokens i) o) in
     let l = listed_at_complete (column_at tokens) (IsColumn tokens) tokens (columns_spans tokens) (columns_complete tokens) list (close_comma (sign_at tokens j) c) in
-    let n = eq-eqb (j + 1) (length tokens) end in
+    let n = eq-eqb (j + 1) (length tokens) last in
     let f = le-leb (length columns) 1600 few in
     rw (w, t, e, o, l, c, n, f) refl
-derives_read tokens statement (insert {i} {j} {name} {rows} w t table v list end) =
+derives_read tokens statement (insert {i} {j} {name} {rows} w t table v list last) =
     let lacks = one_word (codes "insert") (codes "create") tokens 0 insert_create w in
     let e = table_complete tokens table (word_no_sign is_dot (codes "values") tokens i v refl) in
-    let l = listed_at_complete (tuple_at tokens) (IsTuple tokens) tokens (tuple_spans tokens) (tuple_complete tokens) list (past_sign is_comma tokens j end refl) in
-    let n = eq-eqb j (length tokens) end in
+    let l = listed_at_complete (tuple_at tokens) (IsTuple tokens) tokens (tuple_spans tokens) (tuple_complete tokens) list (past_sign is_comma tokens j last refl) in
+    let n = eq-eqb j (length tokens) last in
     rw (lacks, w, t, e, v, l, n) refl
 derives_read tokens statement (select {i} {j} {names} {name} {keep} w list f table condition) =
     let lacks = one_word (codes "select") (codes "create") tokens 0 select_create w in
@@ -169,19 +226,85 @@ select_sound tokens s w e =
     (select w (listed_sound (named_at tokens) (IsNamed tokens) tokens (names_spans tokens) (named_sound tokens) (suc (length tokens)) 1 l.0 l.1)
     f.0 (table_sound tokens (l.0.1 + 1) b.0 b.1) (condition_sound tokens b.0.1 m.0 m.1))
 
+-- the statements of blocks
+or_either : (a b : Bool) → a || b ≡ true → (a ≡ true) ⊎ (b ≡ true)
+or_either true b e = inl refl
+or_either false b e = inr e
+
+rest_sound : (tokens : List Token) (i : ℕ) → is_rest tokens i ≡ true → IsRest tokens i
+rest_sound tokens i e =
+    on (or_either (i == length tokens) ((word_at (codes "transaction") tokens i || word_at (codes "work") tokens i) && (i + 1 == length tokens)) e)
+  where
+    by_word : i + 1 ≡ length tokens → (word_at (codes "transaction") tokens i ≡ true) ⊎ (word_at (codes "work") tokens i ≡ true) → IsRest tokens i
+    by_word last (inl w) = transaction w last
+    by_word last (inr w) = work w last
+
+    on : ((i == length tokens) ≡ true) ⊎ (((word_at (codes "transaction") tokens i || word_at (codes "work") tokens i) && (i + 1 == length tokens)) ≡ true) → IsRest tokens i
+    on (inl h) = ended (eqb-true i (length tokens) h)
+    on (inr h) =
+        let both = and_both (word_at (codes "transaction") tokens i || word_at (codes "work") tokens i) (i + 1 == length tokens) h in
+        by_word (eqb-true (i + 1) (length tokens) both.1) (or_either (word_at (codes "transaction") tokens i) (word_at (codes "work") tokens i) both.0)
+
+commit_sound : (tokens : List Token) (s : Statement) → IsRest tokens 1 → Commit ≡ s → (word_at (codes "commit") tokens 0 ≡ true) ⊎ (word_at (codes "end") tokens 0 ≡ true) → Derives tokens s
+commit_sound tokens s rest same (inl w) = subst (Derives tokens) same (commit w rest)
+commit_sound tokens s rest same (inr w) = subst (Derives tokens) same (end w rest)
+
+rollback_sound : (tokens : List Token) (s : Statement) → IsRest tokens 1 → Rollback ≡ s → (word_at (codes "rollback") tokens 0 ≡ true) ⊎ (word_at (codes "abort") tokens 0 ≡ true) → Derives tokens s
+rollback_sound tokens s rest same (inl w) = subst (Derives tokens) same (rollback w rest)
+rollback_sound tokens s rest same (inr w) = subst (Derives tokens) same (abort w rest)
+
+abbrev commits : List Token → Bool
+commits tokens = word_at (codes "commit") tokens 0 || word_at (codes "end") tokens 0
+
+abbrev rolls_back : List Token → Bool
+rolls_back tokens = word_at (codes "rollback") tokens 0 || word_at (codes "abort") tokens 0
+
+word_sound : (tokens : List Token) (s : Statement) → IsRest tokens 1 → block_word tokens ≡ Some s → Derives tokens s
+word_sound tokens s rest e =
+    begin_or (if_either (word_at (codes "begin") tokens 0) (Some Begin) (if commits tokens then Some Commit else if rolls_back tokens then Some Rollback else None) s e)
+  where
+    commit_or : ((commits tokens ≡ true) × (Some Commit ≡ Some s)) ⊎ ((commits tokens ≡ false) × ((if rolls_back tokens then Some Rollback else None) ≡ Some s)) → Derives tokens s
+    commit_or (inl h) = commit_sound tokens s rest (cc (h.1)) (or_either (word_at (codes "commit") tokens 0) (word_at (codes "end") tokens 0) h.0)
+    commit_or (inr h) =
+        let r = if_some (rolls_back tokens) (Some Rollback) s h.1 in
+        rollback_sound tokens s rest (cc (r.1)) (or_either (word_at (codes "rollback") tokens 0) (word_at (codes "abort") tokens 0) r.0)
+
+    begin_or : ((word_at (codes "begin") tokens 0 ≡ true) × (Some Begin ≡ Some s))
+        ⊎ ((word_at (codes "begin") tokens 0 ≡ false) × ((if commits tokens then Some Commit else if rolls_back tokens then Some Rollback else None) ≡ Some s)) → Derives tokens s
+    begin_or (inl h) = let same : Begin ≡ s = cc (h.1) in subst (Derives tokens) same (begin h.0 rest)
+    begin_or (inr h) = commit_or (if_either (commits tokens) (Some Commit) (if rolls_back tokens then Some Rollback else None) s h.1)
+
+block_sound : (tokens : List Token) (s : Statement) → read_block tokens ≡ Some s → Derives tokens s
+block_sound tokens s e =
+    start_or (if_either (word_at (codes "start") tokens 0) (if word_at (codes "transaction") tokens 1 && (length tokens == 2) then Some Begin else None) (if is_rest tokens 1 then block_word tokens else None) s e)
+  where
+    start_or : ((word_at (codes "start") tokens 0 ≡ true) × ((if word_at (codes "transaction") tokens 1 && (length tokens == 2) then Some Begin else None) ≡ Some s))
+        ⊎ ((word_at (codes "start") tokens 0 ≡ false) × ((if is_rest tokens 1 then block_word tokens else None) ≡ Some s)) → Derives tokens s
+    start_or (inl h) =
+        let t = if_some (word_at (codes "transaction") tokens 1 && (length tokens == 2)) (Some Begin) s h.1 in
+        let both = and_both (word_at (codes "transaction") tokens 1) (length tokens == 2) t.0 in
+        let same : Begin ≡ s = cc (t.1) in
+        subst (Derives tokens) same (start h.0 both.0 (eqb-true (length tokens) 2 both.1))
+    start_or (inr h) =
+        let r = if_some (is_rest tokens 1) (block_word tokens) s h.1 in word_sound tokens s (rest_sound tokens 1 r.0) r.1
+
 pub read_derives : (tokens : List Token) (s : Statement) → read_statement tokens ≡ Some s → Derives tokens s
 read_derives tokens s e =
-    create_or (if_either (word_at (codes "create") tokens 0) (read_create tokens) (if word_at (codes "insert") tokens 0 then read_insert tokens else if word_at (codes "select") tokens 0 then read_select tokens else None) s e)
+    create_or (if_either (word_at (codes "create") tokens 0) (read_create tokens) (if word_at (codes "insert") tokens 0 then read_insert tokens else if word_at (codes "select") tokens 0 then read_select tokens else read_block tokens) s e)
   where
+    select_or : ((word_at (codes "select") tokens 0 ≡ true) × (read_select tokens ≡ Some s)) ⊎ ((word_at (codes "select") tokens 0 ≡ false) × (read_block tokens ≡ Some s)) → Derives tokens s
+    select_or (inl h) = select_sound tokens s h.0 h.1
+    select_or (inr h) = block_sound tokens s h.1
+
     insert_or : ((word_at (codes "insert") tokens 0 ≡ true) × (read_insert tokens ≡ Some s))
-        ⊎ ((word_at (codes "insert") tokens 0 ≡ false) × ((if word_at (codes "select") tokens 0 then read_select tokens else None) ≡ Some s)) → Derives tokens s
+        ⊎ ((word_at (codes "insert") tokens 0 ≡ false) × ((if word_at (codes "select") tokens 0 then read_select tokens else read_block tokens) ≡ Some s)) → Derives tokens s
     insert_or (inl h) = insert_sound tokens s h.0 h.1
-    insert_or (inr h) = let w = if_some (word_at (codes "select") tokens 0) (read_select tokens) s h.1 in select_sound tokens s w.0 w.1
+    insert_or (inr h) = select_or (if_either (word_at (codes "select") tokens 0) (read_select tokens) (read_block tokens) s h.1)
 
     create_or : ((word_at (codes "create") tokens 0 ≡ true) × (read_create tokens ≡ Some s))
-        ⊎ ((word_at (codes "create") tokens 0 ≡ false) × ((if word_at (codes "insert") tokens 0 then read_insert tokens else if word_at (codes "select") tokens 0 then read_select tokens else None) ≡ Some s)) → Derives tokens s
+        ⊎ ((word_at (codes "create") tokens 0 ≡ false) × ((if word_at (codes "insert") tokens 0 then read_insert tokens else if word_at (codes "select") tokens 0 then read_select tokens else read_block tokens) ≡ Some s)) → Derives tokens s
     create_or (inl h) = create_sound tokens s h.0 h.1
-    create_or (inr h) = insert_or (if_either (word_at (codes "insert") tokens 0) (read_insert tokens) (if word_at (codes "select") tokens 0 then read_select tokens else None) s h.1)
+    create_or (inr h) = insert_or (if_either (word_at (codes "insert") tokens 0) (read_insert tokens) (if word_at (codes "select") tokens 0 then read_select tokens else read_block tokens) s h.1)
 
 some_same : (first second : Statement) → Some first ≡ Some second → first ≡ second
 some_same first second e = cc

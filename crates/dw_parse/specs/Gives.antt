@@ -1,5 +1,5 @@
 -- What a call of the parser gave.
-use Rattle.std.specs.Prelude.{◌≡◌, ℕ, Some, None, Result, Ok, Err, List}
+use Rattle.std.specs.Prelude.{◌≡◌, Some, None, Result, Ok, Err, List}
 use Rattle.dw_lex.specs.declared.token.Token.{Token}
 use Rattle.dw_model.specs.declared.statements.Statement.{Statement}
 use Rattle.dw_parse.specs.Reading.{read_statement}

@@ -11,7 +11,7 @@ use Rattle.dw_value.specs.declared.values.Value.TheVariants as value
 use Rattle.dw_model.specs.declared.statements.ColumnSpec.{ColumnSpec}
 use Rattle.dw_model.specs.declared.statements.Test.{Test}
 use Rattle.dw_model.specs.declared.statements.Statement.{Statement}
-use Rattle.dw_model.specs.declared.statements.Statement.TheVariants.{Create, Insert, Select}
+use Rattle.dw_model.specs.declared.statements.Statement.TheVariants.{Begin, Commit, Rollback, Create, Insert, Select}
 use Rattle.dw_parse.specs.Words.{is_open, is_close, is_comma, is_dot, is_minus, comparison_of, in_length, word_at, sign_at, name_at, number_at, literal_at}
 
 -- `x {, x}`
@@ -62,11 +62,25 @@ pub data IsCondition (tokens : List Token) : ℕ → Option Test → Type 0 wher
       → IsItem tokens (i + 3) v j → j ≡ length tokens
       → IsCondition tokens i (Some (record { column = name; comparison = comparison; literal = v }))
 
+-- `[transaction | work]`, up to the end
+pub data IsRest (tokens : List Token) : ℕ → Type 0 where
+  ended : {i : ℕ} → i ≡ length tokens → IsRest tokens i
+  transaction : {i : ℕ} → word_at (codes "transaction") tokens i ≡ true → i + 1 ≡ length tokens → IsRest tokens i
+  work : {i : ℕ} → word_at (codes "work") tokens i ≡ true → i + 1 ≡ length tokens → IsRest tokens i
+
 -- The statement that all of the tokens derive:
+-- `begin`, `commit`, `end`, `rollback` or `abort`, each with `[transaction | work]`, and `start transaction`,
 -- `create table [public .] name ( name kind {, name kind} )`, of at most 1,600 columns,
 -- `insert into [public .] name values tuple {, tuple}`,
 -- `select name {, name} from [public .] name [where name comparison item]`.
 pub data Derives (tokens : List Token) : Statement → Type 0 where
+  begin : word_at (codes "begin") tokens 0 ≡ true → IsRest tokens 1 → Derives tokens Begin
+  start : word_at (codes "start") tokens 0 ≡ true → word_at (codes "transaction") tokens 1 ≡ true → length tokens ≡ 2
+      → Derives tokens Begin
+  commit : word_at (codes "commit") tokens 0 ≡ true → IsRest tokens 1 → Derives tokens Commit
+  end : word_at (codes "end") tokens 0 ≡ true → IsRest tokens 1 → Derives tokens Commit
+  rollback : word_at (codes "rollback") tokens 0 ≡ true → IsRest tokens 1 → Derives tokens Rollback
+  abort : word_at (codes "abort") tokens 0 ≡ true → IsRest tokens 1 → Derives tokens Rollback
   create : {i j : ℕ} {name : List ℕ} {columns : List ColumnSpec} → word_at (codes "create") tokens 0 ≡ true
       → word_at (codes "table") tokens 1 ≡ true → IsTable tokens 2 name i → is_open (sign_at tokens i) ≡ true
       → Listed (IsColumn tokens) tokens (i + 1) columns j → is_close (sign_at tokens j) ≡ true → j + 1 ≡ length tokens

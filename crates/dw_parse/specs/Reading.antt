@@ -1,5 +1,5 @@
 -- The statement that tokens read as. Each reading gives what it found at a place, and the place behind it.
-use Rattle.std.specs.Prelude.{ℕ, zero, suc, ◌+◌, ◌==◌, pos, neg_ℤ, Bool, ◌&&◌, nat_le, if◌then◌else◌, Option, Some, None, List, [], ◌∷◌, length, codes}
+use Rattle.std.specs.Prelude.{ℕ, zero, suc, ◌+◌, ◌==◌, pos, neg_ℤ, Bool, ◌&&◌, ◌||◌, nat_le, if◌then◌else◌, Option, Some, None, List, [], ◌∷◌, length, codes}
 use Rattle.std.specs.Option.{option_map, option_and_then}
 use Rattle.dw_lex.specs.declared.token.Token.{Token}
 use Rattle.dw_value.specs.declared.kinds.Comparison.{Comparison}
@@ -11,7 +11,7 @@ use Rattle.dw_value.specs.declared.values.Value.TheVariants as value
 use Rattle.dw_model.specs.declared.statements.ColumnSpec.{ColumnSpec}
 use Rattle.dw_model.specs.declared.statements.Test.{Test}
 use Rattle.dw_model.specs.declared.statements.Statement.{Statement}
-use Rattle.dw_model.specs.declared.statements.Statement.TheVariants.{Create, Insert, Select}
+use Rattle.dw_model.specs.declared.statements.Statement.TheVariants.{Begin, Commit, Rollback, Create, Insert, Select}
 use Rattle.dw_parse.specs.Words.{is_open, is_close, is_comma, is_dot, is_minus, comparison_of, in_length, word_at, sign_at, name_at, number_at, literal_at}
 
 -- what was found, with the place behind it
@@ -132,9 +132,28 @@ named_at tokens i = reach (i + 1) (name_at tokens i)
 abbrev pub read_select : List Token → Option Statement
 read_select tokens = option_and_then (select_behind tokens) (listed_at (named_at tokens) tokens 1)
 
+-- `[transaction | work]`, up to the end
+abbrev pub is_rest : List Token → ℕ → Bool
+is_rest tokens i =
+    (i == length tokens) || ((word_at (codes "transaction") tokens i || word_at (codes "work") tokens i) && (i + 1 == length tokens))
+
+-- what the first word does to a block of statements
+abbrev pub block_word : List Token → Option Statement
+block_word tokens =
+    if word_at (codes "begin") tokens 0 then Some Begin else
+    if word_at (codes "commit") tokens 0 || word_at (codes "end") tokens 0 then Some Commit else
+    if word_at (codes "rollback") tokens 0 || word_at (codes "abort") tokens 0 then Some Rollback else None
+
+-- `begin`, `commit`, `end`, `rollback` or `abort`, each with `[transaction | work]`, or `start transaction`
+abbrev pub read_block : List Token → Option Statement
+read_block tokens =
+    if word_at (codes "start") tokens 0
+    then (if word_at (codes "transaction") tokens 1 && (length tokens == 2) then Some Begin else None)
+    else (if is_rest tokens 1 then block_word tokens else None)
+
 -- the statement that tokens read as, if there is one
 abbrev pub read_statement : List Token → Option Statement
 read_statement tokens =
     if word_at (codes "create") tokens 0 then read_create tokens else
     if word_at (codes "insert") tokens 0 then read_insert tokens else
-    if word_at (codes "select") tokens 0 then read_select tokens else None
+    if word_at (codes "select") tokens 0 then read_select tokens else read_block tokens

@@ -1,9 +1,11 @@
 //! The statement that the tokens of a text stand for.
 //!
 //! The grammar is this project's profile of the SQL of the Amazon Redshift guide: CREATE TABLE with INTEGER and VARCHAR
-//! columns, INSERT of tuples of literals, and SELECT of columns of one table with at most one comparison.
+//! columns, INSERT of tuples of literals, SELECT of columns of one table with at most one comparison, and the statements that begin
+//! and end a block: BEGIN, START TRANSACTION, COMMIT, END, ROLLBACK and ABORT.
 #![tactic(auto)]
 
+mod block;
 mod create;
 mod fault;
 mod insert;

@@ -2,6 +2,7 @@ ghost use Rattle.std.specs.Prelude.{◌≡◌, IfOk};
 ghost use Rattle.dw_parse.specs.Reading.{read_statement};
 ghost use Rattle.dw_parse.specs.Gives.{Gives};
 
+use crate::block::read_block;
 use crate::create::read_create;
 use crate::fault::ParseFault;
 use crate::insert::read_insert;
@@ -22,7 +23,7 @@ fn read_statement(alloc: Global, tokens: &List<Token>) -> Result<Option<Statemen
     } else if word_at(tokens, 0, "select") {
         read_select(alloc, tokens)
     } else {
-        Ok(None)
+        Ok(read_block(tokens))
     }
 }
 

@@ -41,6 +41,10 @@ fn sign(comparison: Comparison) -> &'static str {
 
 fn show_statement(line: &mut String, statement: &Statement) -> Result<(), AllocError> {
     match statement {
+        Statement::Begin => line.push_str("begin"),
+        Statement::Commit => line.push_str("commit"),
+        Statement::Rollback => line.push_str("rollback"),
+        Statement::Vacuum { .. } => line.push_str("vacuum"),
         Statement::Create { spec } => {
             let name = spec.name.as_str();
             write!(line, "create {name}: ")?;
@@ -180,6 +184,43 @@ fn texts_are_statements_or_refused(rt: HostRuntime) -> Result<(), Fail> {
         ("select", "syntax 0"),
         ("drop table t", "syntax 0"),
         ("", "syntax 0"),
+    ] {
+        let line = shown(rt.alloc(), text)?;
+        assert_eq!(rt; line.as_str(), expected, "{text}");
+    }
+    Ok(())
+}
+
+#[test]
+fn words_begin_and_end_blocks(rt: HostRuntime) -> Result<(), Fail> {
+    for (text, expected) in [
+        ("BEGIN", "begin"),
+        ("begin transaction", "begin"),
+        ("Begin Work", "begin"),
+        ("START TRANSACTION", "begin"),
+        ("start /* */ transaction -- x", "begin"),
+        ("COMMIT", "commit"),
+        ("commit TRANSACTION", "commit"),
+        ("commit work", "commit"),
+        ("END", "commit"),
+        ("end transaction", "commit"),
+        ("end work", "commit"),
+        ("ROLLBACK", "rollback"),
+        ("rollback transaction", "rollback"),
+        ("rollback work", "rollback"),
+        ("ABORT", "rollback"),
+        ("abort transaction", "rollback"),
+        ("abort work", "rollback"),
+        ("start", "syntax 0"),
+        ("start work", "syntax 0"),
+        ("start transaction work", "syntax 0"),
+        ("begin work transaction", "syntax 0"),
+        ("begin begin", "syntax 0"),
+        ("commit 1", "syntax 0"),
+        ("end,", "syntax 0"),
+        ("'begin'", "syntax 0"),
+        ("transaction", "syntax 0"),
+        ("work", "syntax 0"),
     ] {
         let line = shown(rt.alloc(), text)?;
         assert_eq!(rt; line.as_str(), expected, "{text}");

@@ -1,43 +1,89 @@
 -- A script behind another.
-use Rattle.std.proofs.Common.{◌≡◌, ℕ, ◌+◌, Bool, true, false, cond, eqb, List, [], ◌∷◌, ◌++◌, length, None, refl, sym, ap, ◌∙◌, append_assoc, add_assoc, arith}
+use Rattle.std.proofs.Common.{◌≡◌, ℕ, zero, suc, ◌+◌, Bool, true, false, cond, eqb, List, [], ◌∷◌, ◌++◌, length, refl, sym, ap, ◌∙◌, append_assoc, add_assoc, arith}
 use Rattle.std.specs.Option.{option_map}
-use Rattle.dw_script.specs.declared.place.TheConstants.{QUOTE, SEMICOLON}
+use Rattle.dw_script.specs.declared.place.TheConstants.{QUOTE, NAME_QUOTE, DASH, LINE_FEED, SLASH, STAR, SEMICOLON}
 use Rattle.dw_script.specs.declared.place.Place.{Place}
-use Rattle.dw_script.specs.declared.place.Place.TheVariants.{Outside, InText, BehindQuote}
-use Rattle.dw_script.specs.Place.{after, place_from, place_after, text_begin, open_text}
-use Rattle.dw_script.specs.Statements.{ends_statement, parts_from, statements_of, statements}
+use Rattle.dw_script.specs.declared.place.Place.TheVariants.{Outside, InText, BehindQuote, InName, BehindDash, InLine, BehindSlash, InBlock, BehindStar, BehindInnerSlash}
+use Rattle.dw_script.specs.Place.{begun, commented, closed, after, place_from, place_after, is_outside, open_part, ends_outside, left_open}
+use Rattle.dw_script.specs.Statements.{ends_statement, begins_statement, held, content_from, parts_from, statements_of, statements}
+use Rattle.dw_script.specs.Texts.{further}
 use Rattle.dw_script.proofs.Parts.{onto_front, onto_front-nil, parts_from-goes_on, parts_from-ends, statements_of-cons}
 
 -- the same place, of bytes that stand n places further on
-shifted : ℕ → Place → Place
+unfoldable pub shifted : ℕ → Place → Place
 shifted n Outside = Outside
 shifted n (InText begins) = InText (n + begins)
 shifted n (BehindQuote begins) = BehindQuote (n + begins)
+shifted n (InName begins) = InName (n + begins)
+shifted n BehindDash = BehindDash
+shifted n InLine = InLine
+shifted n (BehindSlash begins) = BehindSlash (n + begins)
+shifted n (InBlock begins nested) = InBlock (n + begins) nested
+shifted n (BehindStar begins nested) = BehindStar (n + begins) nested
+shifted n (BehindInnerSlash begins nested) = BehindInnerSlash (n + begins) nested
 
-shifted-cond : (n : ℕ) (test : Bool) (x y : Place) → cond test (shifted n x) (shifted n y) ≡ shifted n (cond test x y)
+shifted-cond : (n : ℕ) (test : Bool) (x y far_x far_y : Place) → far_x ≡ shifted n x → far_y ≡ shifted n y → cond test far_x far_y ≡ shifted n (cond test x y)
+shifted-cond n true x y far_x far_y p q = p
+shifted-cond n false x y far_x far_y p q = q
+
+begun-shifted : (n at byte : ℕ) → begun (n + at) byte ≡ shifted n (begun at byte)
 unfolding shifted
-shifted-cond n true x y = refl
-shifted-cond n false x y = refl
+begun-shifted n at byte =
+    shifted-cond n (eqb byte QUOTE) (InText at) _ (InText (n + at)) _ refl
+    (shifted-cond n (eqb byte NAME_QUOTE) (InName at) _ (InName (n + at)) _ refl
+    (shifted-cond n (eqb byte DASH) BehindDash _ BehindDash _ refl
+    (shifted-cond n (eqb byte SLASH) (BehindSlash at) Outside (BehindSlash (n + at)) Outside refl refl)))
+
+commented-shifted : (n begins nested byte : ℕ) → commented (n + begins) nested byte ≡ shifted n (commented begins nested byte)
+unfolding shifted
+commented-shifted n begins nested byte =
+    shifted-cond n (eqb byte STAR) (BehindStar begins nested) _ (BehindStar (n + begins) nested) _ refl
+    (shifted-cond n (eqb byte SLASH) (BehindInnerSlash begins nested) (InBlock begins nested) (BehindInnerSlash (n + begins) nested) (InBlock (n + begins) nested) refl refl)
+
+closed-shifted : (n begins nested : ℕ) → closed (n + begins) nested ≡ shifted n (closed begins nested)
+unfolding shifted
+closed-shifted n begins zero = refl
+closed-shifted n begins (suc nested) = refl
 
 after-shifted : (n : ℕ) (place : Place) (at byte : ℕ) → after (shifted n place) (n + at) byte ≡ shifted n (after place at byte)
 unfolding shifted
-after-shifted n Outside at byte = shifted-cond n (eqb byte QUOTE) (InText at) Outside
-after-shifted n (InText begins) at byte = shifted-cond n (eqb byte QUOTE) (BehindQuote begins) (InText begins)
-after-shifted n (BehindQuote begins) at byte = shifted-cond n (eqb byte QUOTE) (InText begins) Outside
+after-shifted n Outside at byte = begun-shifted n at byte
+after-shifted n (InText begins) at byte = shifted-cond n (eqb byte QUOTE) (BehindQuote begins) (InText begins) (BehindQuote (n + begins)) (InText (n + begins)) refl refl
+after-shifted n (BehindQuote begins) at byte = shifted-cond n (eqb byte QUOTE) (InText begins) (begun at byte) (InText (n + begins)) (begun (n + at) byte) refl (begun-shifted n at byte)
+after-shifted n (InName begins) at byte = shifted-cond n (eqb byte NAME_QUOTE) Outside (InName begins) Outside (InName (n + begins)) refl refl
+after-shifted n BehindDash at byte = shifted-cond n (eqb byte DASH) InLine (begun at byte) InLine (begun (n + at) byte) refl (begun-shifted n at byte)
+after-shifted n InLine at byte = shifted-cond n (eqb byte LINE_FEED) Outside InLine Outside InLine refl refl
+after-shifted n (BehindSlash begins) at byte = shifted-cond n (eqb byte STAR) (InBlock begins 0) (begun at byte) (InBlock (n + begins) 0) (begun (n + at) byte) refl (begun-shifted n at byte)
+after-shifted n (InBlock begins nested) at byte = commented-shifted n begins nested byte
+after-shifted n (BehindStar begins nested) at byte = shifted-cond n (eqb byte SLASH) (closed begins nested) (commented begins nested byte) (closed (n + begins) nested) (commented (n + begins) nested byte) (closed-shifted n begins nested) (commented-shifted n begins nested byte)
+after-shifted n (BehindInnerSlash begins nested) at byte = shifted-cond n (eqb byte STAR) (InBlock begins (nested + 1)) (commented begins nested byte) (InBlock (n + begins) (nested + 1)) (commented (n + begins) nested byte) refl (commented-shifted n begins nested byte)
 
 ends_statement-shifted : (n : ℕ) (place : Place) (byte : ℕ) → ends_statement (shifted n place, byte) ≡ ends_statement (place, byte)
 unfolding shifted
 ends_statement-shifted n Outside byte = refl
-ends_statement-shifted n (InText begins) byte = refl
-ends_statement-shifted n (BehindQuote begins) byte = refl
+ends_statement-shifted n place byte = refl
 
-text_begin-shifted : (n : ℕ) (place : Place) → text_begin (shifted n place) ≡ option_map (λ (begins : ℕ). n + begins) (text_begin place)
+begins_statement-shifted : (n : ℕ) (place : Place) (byte : ℕ) → begins_statement (shifted n place) byte ≡ begins_statement place byte
 unfolding shifted
-text_begin-shifted n Outside = refl
-text_begin-shifted n (InText begins) = refl
-text_begin-shifted n (BehindQuote begins) = refl
+begins_statement-shifted n Outside byte = refl
+begins_statement-shifted n place byte = refl
 
-place_from-shifted : (n : ℕ) (place : Place) (at : ℕ) (bytes : List ℕ) → place_from (shifted n place) (n + at) bytes ≡ shifted n (place_from place at bytes)
+held-shifted : (n : ℕ) (place : Place) → held (shifted n place) ≡ held place
+unfolding shifted
+held-shifted n Outside = refl
+held-shifted n place = refl
+
+pub is_outside-shifted : (n : ℕ) (place : Place) → is_outside (shifted n place) ≡ is_outside place
+unfolding shifted
+is_outside-shifted n Outside = refl
+is_outside-shifted n place = refl
+
+pub open_part-shifted : (n : ℕ) (place : Place) → open_part (shifted n place) ≡ option_map (further n) (open_part place)
+unfolding shifted
+open_part-shifted n Outside = refl
+open_part-shifted n place = refl
+
+pub place_from-shifted : (n : ℕ) (place : Place) (at : ℕ) (bytes : List ℕ) → place_from (shifted n place) (n + at) bytes ≡ shifted n (place_from place at bytes)
 place_from-shifted n place at [] = refl
 place_from-shifted n place at (byte ∷ bytes) = rw (after-shifted n place at byte, add_assoc n at 1) (place_from-shifted n (after place at byte) (at + 1) bytes)
 
@@ -58,22 +104,41 @@ parts_from-shifted n place at (byte ∷ bytes) =
     parts_from-shifted_by n place at byte bytes (ends_statement (place, byte)) refl
     (rw (after-shifted n place at byte, add_assoc n at 1) (parts_from-shifted n (after place at byte) (at + 1) bytes))
 
-parts_from-anywhere : (n : ℕ) (bytes : List ℕ) → parts_from Outside n bytes ≡ parts_from Outside 0 bytes
+pub parts_from-anywhere : (n : ℕ) (bytes : List ℕ) → parts_from Outside n bytes ≡ parts_from Outside 0 bytes
 unfolding shifted
 parts_from-anywhere n bytes =
     let here : n + 0 ≡ n = omega arith in
     ap (λ (at : ℕ). parts_from Outside at bytes) (sym here) ∙ parts_from-shifted n Outside 0 bytes
 
--- a `;` outside of texts
-after-semicolon : (place : Place) (at : ℕ) → text_begin place ≡ None → after place at SEMICOLON ≡ Outside
-after-semicolon Outside at closed = refl
-after-semicolon (InText begins) at closed = cc
-after-semicolon (BehindQuote begins) at closed = refl
+-- the content of a part is the same wherever it stands
+content_from-shifted_by : (n : ℕ) (place : Place) (at byte : ℕ) (bytes : List ℕ) (begins : Bool) → begins_statement place byte ≡ begins
+    → content_from (after (shifted n place) (n + at) byte) (n + at + 1) bytes ≡ content_from (after place at byte) (at + 1) bytes
+    → content_from (shifted n place) (n + at) (byte ∷ bytes) ≡ content_from place at (byte ∷ bytes)
+content_from-shifted_by n place at byte bytes true h rest = rw (begins_statement-shifted n place byte, held-shifted n place, h) refl
+content_from-shifted_by n place at byte bytes false h rest = rw (begins_statement-shifted n place byte, h) rest
 
-semicolon_ends : (place : Place) → text_begin place ≡ None → ends_statement (place, SEMICOLON) ≡ true
-semicolon_ends Outside closed = refl
-semicolon_ends (InText begins) closed = cc
-semicolon_ends (BehindQuote begins) closed = refl
+content_from-shifted : (n : ℕ) (place : Place) (at : ℕ) (bytes : List ℕ) → content_from (shifted n place) (n + at) bytes ≡ content_from place at bytes
+content_from-shifted n place at [] = held-shifted n place
+content_from-shifted n place at (byte ∷ bytes) =
+    content_from-shifted_by n place at byte bytes (begins_statement place byte) refl
+    (rw (after-shifted n place at byte, add_assoc n at 1) (content_from-shifted n (after place at byte) (at + 1) bytes))
+
+pub content_from-anywhere : (n : ℕ) (bytes : List ℕ) → content_from Outside n bytes ≡ content_from Outside 0 bytes
+unfolding shifted
+content_from-anywhere n bytes =
+    let here : n + 0 ≡ n = omega arith in
+    ap (λ (at : ℕ). content_from Outside at bytes) (sym here) ∙ content_from-shifted n Outside 0 bytes
+
+-- a `;` outside of texts, names and comments
+after-semicolon : (place : Place) (at : ℕ) → is_outside place ≡ true → after place at SEMICOLON ≡ Outside
+after-semicolon Outside at out = refl
+after-semicolon (BehindQuote begins) at out = refl
+after-semicolon BehindDash at out = refl
+after-semicolon (BehindSlash begins) at out = refl
+after-semicolon place at out = cc
+
+semicolon_ends : (place : Place) → is_outside place ≡ true → ends_statement (place, SEMICOLON) ≡ true
+semicolon_ends place out = rw out refl
 
 onto_front-append_right : (front : List ℕ) (ps qs : List (List ℕ)) → onto_front [] ps ≡ ps → onto_front front (ps ++ qs) ≡ onto_front front ps ++ qs
 onto_front-append_right front [] qs some = cc
@@ -92,7 +157,7 @@ parts_from-joined_by place at byte front back false h rest =
     ∙ onto_front-append_right (byte ∷ []) (parts_from (after place at byte) (at + 1) front) (parts_from Outside 0 back) (onto_front-nil (after place at byte) (at + 1) front)
     ∙ ap (λ (parts : List (List ℕ)). parts ++ parts_from Outside 0 back) (sym (parts_from-goes_on place at byte front h))
 
-parts_from-joined : (place : Place) (at : ℕ) (front back : List ℕ) → text_begin (place_from place at front) ≡ None
+parts_from-joined : (place : Place) (at : ℕ) (front back : List ℕ) → is_outside (place_from place at front) ≡ true
     → parts_from place at (front ++ SEMICOLON ∷ back) ≡ parts_from place at front ++ parts_from Outside 0 back
 parts_from-joined place at [] back closed =
     parts_from-ends place at SEMICOLON back (semicolon_ends place closed)
@@ -109,13 +174,13 @@ statements_of-append (p ∷ ps) qs =
     ∙ sym (append_assoc (statements_of (p ∷ [])) (statements_of ps) (statements_of qs))
     ∙ ap (λ (front : List (List ℕ)). front ++ statements_of qs) (sym (statements_of-cons p ps))
 
-pub statements-joined : (front back : List ℕ) → open_text front ≡ None → statements (front ++ SEMICOLON ∷ back) ≡ statements front ++ statements back
-unfolding statements open_text
+pub statements-joined : (front back : List ℕ) → ends_outside front ≡ true → statements (front ++ SEMICOLON ∷ back) ≡ statements front ++ statements back
+unfolding statements ends_outside
 statements-joined front back closed =
     ap statements_of (parts_from-joined Outside 0 front back closed)
     ∙ statements_of-append (parts_from Outside 0 front) (parts_from Outside 0 back)
 
-place_from-append : (place : Place) (at : ℕ) (xs ys : List ℕ) → place_from place at (xs ++ ys) ≡ place_from (place_from place at xs) (at + length xs) ys
+pub place_from-append : (place : Place) (at : ℕ) (xs ys : List ℕ) → place_from place at (xs ++ ys) ≡ place_from (place_from place at xs) (at + length xs) ys
 place_from-append place at [] ys =
     let here : at + 0 ≡ at = omega arith in
     ap (λ (k : ℕ). place_from place k ys) (sym here)
@@ -123,13 +188,20 @@ place_from-append place at (x ∷ xs) ys =
     let here : at + 1 + length xs ≡ at + length (x ∷ xs) = omega arith in
     place_from-append (after place at x) (at + 1) xs ys ∙ ap (λ (k : ℕ). place_from (place_from (after place at x) (at + 1) xs) k ys) here
 
-pub open_text-joined : (front back : List ℕ) → open_text front ≡ None → open_text (front ++ SEMICOLON ∷ back) ≡ option_map (λ (place : ℕ). length front + 1 + place) (open_text back)
-unfolding open_text shifted
-open_text-joined front back closed =
+-- behind a script and a `;` one stands where one does behind what follows, further on
+place_after-joined : (front back : List ℕ) → is_outside (place_after front) ≡ true → place_after (front ++ SEMICOLON ∷ back) ≡ shifted (length front + 1) (place_after back)
+unfolding shifted
+place_after-joined front back out =
     let here : 0 + length front + 1 ≡ length front + 1 + 0 = omega arith in
-    ap text_begin (
     place_from-append Outside 0 front (SEMICOLON ∷ back)
-    ∙ ap (λ (next : Place). place_from next (0 + length front + 1) back) (after-semicolon (place_after front) (0 + length front) closed)
+    ∙ ap (λ (next : Place). place_from next (0 + length front + 1) back) (after-semicolon (place_after front) (0 + length front) out)
     ∙ ap (λ (k : ℕ). place_from Outside k back) here
-    ∙ place_from-shifted (length front + 1) Outside 0 back)
-    ∙ text_begin-shifted (length front + 1) (place_after back)
+    ∙ place_from-shifted (length front + 1) Outside 0 back
+
+pub left_open-joined : (front back : List ℕ) → ends_outside front ≡ true → left_open (front ++ SEMICOLON ∷ back) ≡ option_map (further (length front + 1)) (left_open back)
+unfolding left_open ends_outside
+left_open-joined front back out = ap open_part (place_after-joined front back out) ∙ open_part-shifted (length front + 1) (place_after back)
+
+pub ends_outside-joined : (front back : List ℕ) → ends_outside front ≡ true → ends_outside (front ++ SEMICOLON ∷ back) ≡ ends_outside back
+unfolding ends_outside
+ends_outside-joined front back out = ap is_outside (place_after-joined front back out) ∙ is_outside-shifted (length front + 1) (place_after back)

@@ -1,5 +1,9 @@
 pub mod Parts
+pub mod Contents
 pub mod Causes
 pub mod Joined
 pub mod Quoted
+pub mod Gaps
+pub mod Numbers
+pub mod Words
 pub mod Utf8

@@ -1,11 +1,11 @@
 -- The parts of what is left of a script, one byte after the other.
-use Rattle.std.proofs.Common.{◌≡◌, ℕ, ◌+◌, ◌-◌, ◌<◌, ◌≤◌, Bool, true, false, cond, List, [], ◌∷◌, ◌++◌, length, get_or, take, drop, map, refl, sym, ap, ◌∙◌, append_assoc, arith}
+use Rattle.std.proofs.Common.{◌≡◌, ℕ, ◌+◌, ◌-◌, ◌<◌, ◌≤◌, Bool, true, false, List, [], ◌∷◌, ◌++◌, length, get_or, take, drop, map, refl, sym, ap, ◌∙◌, append_assoc, arith}
 use Rattle.std.specs.List.{slice_split, onto_first}
 use Rattle.std.proofs.lemmas.List.{append-nil, take_more, drop_more, at_drop_all, get_or-drop, length-drop, take_all}
 use Rattle.dw_script.specs.declared.place.Place.{Place}
 use Rattle.dw_script.specs.declared.place.Place.TheVariants.{Outside}
 use Rattle.dw_script.specs.Place.{after}
-use Rattle.dw_script.specs.Statements.{placed_from, ends_statement, parts_from, statements_of, without_blanks}
+use Rattle.dw_script.specs.Statements.{placed_from, ends_statement, parts_from, statements_of, content, one_if_any}
 
 -- what stands before the first part, as a piece of it
 abbrev pub onto_front : List ℕ → List (List ℕ) → List (List ℕ)
@@ -41,13 +41,9 @@ pub onto_front-nil : (place : Place) (at : ℕ) (rest : List ℕ) → onto_front
 onto_front-nil place at [] = refl
 onto_front-nil place at (byte ∷ rest) = onto_front-nil_by place at byte rest (ends_statement (place, byte)) refl
 
-one_kept : (kept : Bool) (statement : List ℕ) (rest : List (List ℕ)) → cond kept (statement ∷ rest) rest ≡ cond kept (statement ∷ []) [] ++ rest
-one_kept true statement rest = refl
-one_kept false statement rest = refl
-
 -- the statement of the first part comes first
 pub statements_of-cons : (part : List ℕ) (parts : List (List ℕ)) → statements_of (part ∷ parts) ≡ statements_of (part ∷ []) ++ statements_of parts
-statements_of-cons part parts = one_kept _ (without_blanks part) (statements_of parts)
+statements_of-cons part parts = ap (λ (first : List (List ℕ)). first ++ statements_of parts) (sym (append-nil (one_if_any (content part))))
 
 pub to_come-goes_on : (place : Place) (at byte : ℕ) (front rest : List ℕ) → ends_statement (place, byte) ≡ false → to_come place at front (byte ∷ rest) ≡ to_come (after place at byte) (at + 1) (front ++ byte ∷ []) rest
 to_come-goes_on place at byte front rest h =

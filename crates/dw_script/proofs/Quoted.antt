@@ -1,10 +1,11 @@
 -- A text in a script, whatever it holds.
-use Rattle.std.proofs.Common.{◌≡◌, ℕ, ◌+◌, Bool, true, false, cond, eqb, nat_lt, suc, length, arith, List, [], ◌∷◌, ◌++◌, None, refl, sym, ap, ◌∙◌}
-use Rattle.std.proofs.lemmas.Bool.Decides.{nat_tests}
-use Rattle.dw_script.specs.declared.place.TheConstants.{QUOTE}
+use Rattle.std.proofs.Common.{◌≡◌, ℕ, ◌+◌, Bool, true, false, not, eqb, List, [], ◌∷◌, ◌++◌, refl, sym, ap, ◌∙◌}
+use Rattle.std.specs.List.{list_all}
+use Rattle.std.proofs.lemmas.Bool.{and_parts}
+use Rattle.dw_script.specs.declared.place.TheConstants.{QUOTE, NAME_QUOTE}
 use Rattle.dw_script.specs.declared.place.Place.{Place}
-use Rattle.dw_script.specs.declared.place.Place.TheVariants.{Outside, InText, BehindQuote}
-use Rattle.dw_script.specs.Place.{after, place_from, text_begin, open_text}
+use Rattle.dw_script.specs.declared.place.Place.TheVariants.{Outside, InText, BehindQuote, InName}
+use Rattle.dw_script.specs.Place.{after, place_from, is_outside, ends_outside}
 use Rattle.dw_script.specs.Statements.{parts_from, statements_of, statements}
 use Rattle.dw_script.specs.Texts.{doubled, quoted}
 use Rattle.dw_script.proofs.Parts.{onto_front, parts_from-goes_on}
@@ -40,17 +41,10 @@ unfolding rest_of
 parts_from-text n at [] = refl
 parts_from-text n at (byte ∷ text) = parts_from-text_by n at byte text (eqb byte QUOTE) refl (λ k. parts_from-text n k text)
 
--- a quote is no blank
-quote_kept : (rest : List ℕ) → statements_of ((QUOTE ∷ rest) ∷ []) ≡ (QUOTE ∷ rest) ∷ []
-quote_kept rest =
-    let test : nat_lt 0 (suc (length rest)) ≡ true = grind (arith, nat_tests) in
-    ap (λ (kept : Bool). cond kept ((QUOTE ∷ rest) ∷ []) []) test
-
 pub statements-quoted : (text : List ℕ) → statements (quoted text) ≡ quoted text ∷ []
 unfolding statements rest_of
 statements-quoted text =
     ap statements_of (parts_from-goes_on Outside 0 QUOTE (rest_of text) refl ∙ ap (onto_front (QUOTE ∷ [])) (parts_from-text 0 1 text))
-    ∙ quote_kept (rest_of text)
 
 place_from-text_by : (n at byte : ℕ) (text : List ℕ) (is_quote : Bool) → eqb byte QUOTE ≡ is_quote
     → ((k : ℕ) → place_from (InText n) k (rest_of text) ≡ BehindQuote n)
@@ -67,6 +61,49 @@ unfolding rest_of
 place_from-text n at [] = refl
 place_from-text n at (byte ∷ text) = place_from-text_by n at byte text (eqb byte QUOTE) refl (λ k. place_from-text n k text)
 
-pub open_text-quoted : (text : List ℕ) → open_text (quoted text) ≡ None
-unfolding open_text rest_of
-open_text-quoted text = ap text_begin (place_from-text 0 1 text)
+pub ends_outside-quoted : (text : List ℕ) → ends_outside (quoted text) ≡ true
+unfolding ends_outside rest_of
+ends_outside-quoted text = ap is_outside (place_from-text 0 1 text)
+
+-- the rest of a quoted name that began at n
+name_rest : List ℕ → List ℕ
+name_rest name = name ++ NAME_QUOTE ∷ []
+
+abbrev IsInside : List ℕ → Type 0
+IsInside name = list_all (λ byte. not (eqb byte NAME_QUOTE)) name ≡ true
+
+not_false : (test : Bool) → not test ≡ true → test ≡ false
+not_false true h = cc
+not_false false h = refl
+
+-- the first byte of a quoted name, and what is behind it
+inside_parts : (byte : ℕ) (name : List ℕ) → IsInside (byte ∷ name) → (eqb byte NAME_QUOTE ≡ false) × IsInside name
+inside_parts byte name h = let parts = and_parts (not (eqb byte NAME_QUOTE)) (list_all (λ b. not (eqb b NAME_QUOTE)) name) h in (not_false (eqb byte NAME_QUOTE) parts.0, parts.1)
+
+after-named : (n at byte : ℕ) → eqb byte NAME_QUOTE ≡ false → after (InName n) at byte ≡ InName n
+after-named n at byte h = rw h refl
+
+parts_from-name : (n at : ℕ) (name : List ℕ) → IsInside name → parts_from (InName n) at (name_rest name) ≡ name_rest name ∷ []
+unfolding name_rest
+parts_from-name n at [] inside = refl
+parts_from-name n at (byte ∷ name) inside =
+    let parts = inside_parts byte name inside in
+    parts_from-goes_on (InName n) at byte (name_rest name) refl
+    ∙ ap (λ (next : Place). onto_front (byte ∷ []) (parts_from next (at + 1) (name_rest name))) (after-named n at byte parts.0)
+    ∙ ap (onto_front (byte ∷ [])) (parts_from-name n (at + 1) name parts.1)
+
+pub statements-named : (name : List ℕ) → IsInside name → statements (NAME_QUOTE ∷ name ++ NAME_QUOTE ∷ []) ≡ (NAME_QUOTE ∷ name ++ NAME_QUOTE ∷ []) ∷ []
+unfolding statements name_rest
+statements-named name inside =
+    ap statements_of (parts_from-goes_on Outside 0 NAME_QUOTE (name_rest name) refl ∙ ap (onto_front (NAME_QUOTE ∷ [])) (parts_from-name 0 1 name inside))
+
+place_from-name : (n at : ℕ) (name : List ℕ) → IsInside name → place_from (InName n) at (name_rest name) ≡ Outside
+unfolding name_rest
+place_from-name n at [] inside = refl
+place_from-name n at (byte ∷ name) inside =
+    let parts = inside_parts byte name inside in
+    ap (λ (next : Place). place_from next (at + 1) (name_rest name)) (after-named n at byte parts.0) ∙ place_from-name n (at + 1) name parts.1
+
+pub ends_outside-named : (name : List ℕ) → IsInside name → ends_outside (NAME_QUOTE ∷ name ++ NAME_QUOTE ∷ []) ≡ true
+unfolding ends_outside name_rest
+ends_outside-named name inside = ap is_outside (place_from-name 0 1 name inside)

@@ -2,7 +2,7 @@
 use Rattle.std.specs.Prelude.{ℕ, List, [], ◌++◌, codes}
 use Rattle.std.specs.Fmt.{decimal}
 use Rattle.dw_script.specs.declared.script.ScriptCause.{ScriptCause}
-use Rattle.dw_script.specs.declared.script.ScriptCause.TheVariants.{NotUtf8, OpenText, TooMany}
+use Rattle.dw_script.specs.declared.script.ScriptCause.TheVariants.{NotUtf8, OpenText, OpenComment, TooMany}
 use Rattle.dw_script.specs.declared.status.Status.{Status}
 use Rattle.dw_script.specs.declared.status.Status.TheVariants as statuses
 
@@ -26,6 +26,7 @@ exit_number (statuses.TooLong name) = 13
 abbrev pub cause_text : ScriptCause → List ℕ
 cause_text (NotUtf8 place) = codes "not utf-8 at " ++ decimal place
 cause_text (OpenText place) = codes "open text at " ++ decimal place
+cause_text (OpenComment place) = codes "open comment at " ++ decimal place
 cause_text TooMany = codes "too many statements"
 
 -- the line on standard error, without its LF

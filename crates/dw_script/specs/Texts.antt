@@ -1,6 +1,8 @@
--- Texts as SQL writes them.
-use Rattle.std.specs.Prelude.{ℕ, List, [], ◌∷◌, ◌++◌, ◌==◌, if◌then◌else◌}
+-- Texts as SQL writes them, and causes further on.
+use Rattle.std.specs.Prelude.{ℕ, ◌+◌, List, [], ◌∷◌, ◌++◌, ◌==◌, if◌then◌else◌}
 use Rattle.dw_script.specs.declared.place.TheConstants.{QUOTE}
+use Rattle.dw_script.specs.declared.script.ScriptCause.{ScriptCause}
+use Rattle.dw_script.specs.declared.script.ScriptCause.TheVariants.{NotUtf8, OpenText, OpenComment, TooMany}
 
 -- a text with each quote written twice
 abbrev pub doubled : List ℕ → List ℕ
@@ -10,3 +12,10 @@ doubled (byte ∷ text) = if byte == QUOTE then QUOTE ∷ QUOTE ∷ doubled text
 -- a text in single quotes
 abbrev pub quoted : List ℕ → List ℕ
 quoted text = QUOTE ∷ doubled text ++ QUOTE ∷ []
+
+-- a cause whose place is so many bytes further on
+abbrev pub further : ℕ → ScriptCause → ScriptCause
+further n (NotUtf8 place) = NotUtf8 (n + place)
+further n (OpenText place) = OpenText (n + place)
+further n (OpenComment place) = OpenComment (n + place)
+further n TooMany = TooMany

@@ -12,7 +12,8 @@ pub const MAX_STATEMENTS: usize = 100_000;
 /// The statements of a script.
 #[derive(Debug, Drop)]
 pub struct Script {
-    /// The bytes of each statement, in order, from its first byte that is no blank on, without the `;` that ends it.
+    /// The bytes of each statement, in order, from its first byte on that is no blank and in no comment, without the `;`
+    /// that ends it.
     pub statements: List<List<u8>>,
 }
 
@@ -21,8 +22,10 @@ pub struct Script {
 pub enum ScriptCause {
     /// The script is not UTF-8. Its longest front that is UTF-8 has `place` bytes.
     NotUtf8 { place: u64 },
-    /// The text that begins at the byte `place`, counted from 0, is not closed.
+    /// The text or the quoted name that begins at the byte `place`, counted from 0, is not closed.
     OpenText { place: u64 },
+    /// The block comment that begins at the byte `place`, counted from 0, is not closed. Of nested ones it is the outermost.
+    OpenComment { place: u64 },
     /// The script has more than `MAX_STATEMENTS` statements.
     TooMany,
 }
@@ -38,6 +41,7 @@ impl fmt::Display for ScriptCause {
         match self {
             ScriptCause::NotUtf8 { place } => write!(f, "not utf-8 at {place}"),
             ScriptCause::OpenText { place } => write!(f, "open text at {place}"),
+            ScriptCause::OpenComment { place } => write!(f, "open comment at {place}"),
             ScriptCause::TooMany => write!(f, "too many statements"),
         }
     }

@@ -1,6 +1,5 @@
-ghost use Rattle.std.specs.Prelude.{◌≡◌, [], ◌∷◌, ◌++◌, ◌≤◌, ◌<◌, length, None, Some, not, IfOk, IfErr, OnOk, All, IsUtf8};
-ghost use Rattle.std.specs.List.{position};
-ghost use Rattle.dw_script.specs.Statements.{IfBad, is_blank, statements_of, statements, script_cause};
+ghost use Rattle.std.specs.Prelude.{◌≡◌, [], ◌∷◌, ◌++◌, ◌≤◌, ◌<◌, length, None, Some, IfOk, IfErr, OnOk, All, IsUtf8};
+ghost use Rattle.dw_script.specs.Statements.{IfBad, content, statements_of, statements, script_cause};
 
 use crate::place::{Place, place_after};
 use crate::script::{MAX_STATEMENTS, Script, ScriptCause, ScriptFault};
@@ -9,9 +8,15 @@ use std::alloc::Global;
 
 /// Cuts a script into its statements, whose bytes are copied once, into memory of `alloc`.
 ///
-/// Each `;` outside of a text ends a statement, and so does the script's end. A text is in single quotes, in which two
-/// quotes in a row stand for one and a backslash is an ordinary character, as in SQL's character string literals.
-/// Spaces, tabs, LF and CR are blanks: a statement begins at its first byte that is no blank, and blanks alone are none.
+/// Each `;` outside of texts, quoted names and comments ends a statement, and so does the script's end. A text is in
+/// single quotes, in which two quotes in a row stand for one and a backslash is an ordinary character; a quoted name is in
+/// double quotes, and ends at the next one. A comment is from `--` to the end of the line, which LF alone ends, or from
+/// `/*` to `*/`, and these nest. In a text, a quoted name or a comment to the end of the line nothing else begins, and in a
+/// block comment only `/*` and `*/` count. Statements end as in the SQL standard, where two double quotes in a row stand
+/// for one in a quoted name: here they end one and begin the next, which comes to the same.
+///
+/// Spaces, tabs, LF and CR are blanks. A statement begins at its first byte that is no blank and in no comment, and what
+/// stands in it from there on stays, comments too. Blanks and comments alone are no statement.
 ///
 /// `Bad` comes exactly where the script has a cause, unless memory runs out first. The time is linear in the bytes.
 pub fn split(alloc: Global, bytes: &[u8]) -> Result<Script, ScriptFault>
@@ -25,14 +30,13 @@ pub fn split(alloc: Global, bytes: &[u8]) -> Result<Script, ScriptFault>
         let place = error.valid_up_to() as u64;
         return Err(ScriptFault::Bad(ScriptCause::NotUtf8 { place }));
     }
-    if let Some(begin) = place_after(bytes).text_begin() {
-        let place = begin as u64;
-        return Err(ScriptFault::Bad(ScriptCause::OpenText { place }));
+    if let Some(cause) = place_after(bytes).open_part() {
+        return Err(ScriptFault::Bad(cause));
     }
     cut(alloc, bytes)
 }
 
-/// Cuts a script in which no text is open.
+/// Cuts a script in which nothing is open.
 fn cut(alloc: Global, bytes: &[u8]) -> Result<Script, ScriptFault>
     ensures statements { IfOk result (λ script. script.statements ≡ statements bytes.now) }
     ensures few { IfOk result (λ script. length script.statements ≤ MAX_STATEMENTS) }
@@ -53,7 +57,7 @@ fn cut(alloc: Global, bytes: &[u8]) -> Result<Script, ScriptFault>
     Ok(Script { statements })
 }
 
-/// Puts the statement of one part of a script behind the others, if the part is more than blanks.
+/// Puts the statement of one part of a script behind the others, if the part is more than blanks and comments.
 fn push_statement(
     alloc: Global,
     statements: &mut List<List<u8>>,
@@ -65,27 +69,28 @@ fn push_statement(
     ensures bad { IfErr result (λ fault. IfBad fault (λ cause. (cause ≡ ScriptCause.TooMany)
         × (MAX_STATEMENTS < length (statements.old ++ statements_of (part.now ∷ []))))) }
 {
-    let Some(first) = first_of_statement(part) else {
+    let content = content(part);
+    if content.is_empty() {
         return Ok(());
-    };
+    }
     if statements.len() == MAX_STATEMENTS {
         return Err(ScriptFault::Bad(ScriptCause::TooMany));
     }
-    let statement = Vec::from_slice(alloc, &part[first..])?;
+    let statement = Vec::from_slice(alloc, content)?;
     statements.push(List::from_vec(statement))?;
     Ok(())
 }
 
-/// Where the statement begins in a part of a script.
-fn first_of_statement(part: &[u8]) -> Option<usize>
-    ensures { result ≡ position (λ byte. not (is_blank byte)) part.now }
+/// A part of a script from its first byte on that is no blank and in no comment.
+fn content(part: &[u8]) -> &[u8]
+    ensures { result.now ≡ content part.now }
 {
-    part.iter().position(|byte| !is_blank(*byte))
-}
-
-/// Whether a byte is a space, a tab, an LF or a CR.
-fn is_blank(byte: u8) -> bool
-    ensures { result ≡ is_blank byte }
-{
-    matches!(byte, b' ' | b'\t' | b'\n' | b'\r')
+    let mut place = Place::Outside;
+    for (at, byte) in part.iter().enumerate() {
+        if place.begins_statement(*byte) {
+            return &part[at - place.held()..];
+        }
+        place = place.after(at, *byte);
+    }
+    &part[part.len() - place.held()..]
 }

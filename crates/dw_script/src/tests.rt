@@ -1,4 +1,4 @@
-use super::{MAX_STATEMENTS, ScriptCause, Status, split};
+use super::{MAX_STATEMENTS, ScriptCause, Status, read_schedule, split};
 use dw_value::Text;
 use std::alloc::{AllocError, Global};
 use std::test::Fail;
@@ -46,6 +46,118 @@ fn scripts_are_split(rt: HostRuntime) -> Result<(), Fail> {
         let told = told(rt.alloc(), script)?;
         assert_eq!(rt; told.as_slice(), want, "of {script:?}");
     }
+    Ok(())
+}
+
+#[test]
+fn comments_count_for_nothing(rt: HostRuntime) -> Result<(), Fail> {
+    let cases: [(&[u8], &[u8]); 28] = [
+        (b"/* ; */a;-- ;\nb -- ;\n;c", b"[a][b -- ;\n][c]"),
+        (b"\"a;b\";\"c'\";d", b"[\"a;b\"][\"c'\"][d]"),
+        (b"x;\"a\"\"", b"open text at 5"),
+        (b"-- a\n /* b */ -- c", b""),
+        (b"--;\n--", b""),
+        (b"a;--\r;\nb", b"[a][b]"),
+        (b"/* /* ; */ ; */ a", b"[a]"),
+        (b"x/* /* */", b"open comment at 1"),
+        (b"x;/*/", b"open comment at 2"),
+        (b"/*/*/ */ */a", b"[a]"),
+        (b"/*/**/*/a", b"[a]"),
+        (b"/***/a;/**/b", b"[a][b]"),
+        (b"/* -- */a;b", b"[a][b]"),
+        (b"/* ' \" */a;b", b"[a][b]"),
+        (b"-- ' \" /*\na;b", b"[a][b]"),
+        (b"'/*';a", b"['/*'][a]"),
+        (b"'--';a", b"['--'][a]"),
+        (b"\"/*--'\";a", b"[\"/*--'\"][a]"),
+        (b"/* 'a", b"open comment at 0"),
+        (b"'a /* ", b"open text at 0"),
+        (b"/* /* */ 'a", b"open comment at 0"),
+        (b"''/*", b"open comment at 2"),
+        (b"a-b;a/b;-;/;a--b;c", b"[a-b][a/b][-][/][a--b;c]"),
+        (b"-/*;*/-;/--;\n/;//*;*/;", b"[-/*;*/-][/--;\n/][//*;*/]"),
+        (b"a*/b;*/", b"[a*/b][*/]"),
+        (b"/* \xc3\xa9 */\xc3\xa9;-- \xc3\xa9\n;", b"[\xc3\xa9]"),
+        (b"/* \xff", b"not utf-8 at 3"),
+        (b"a /* b */ ; /* c */", b"[a /* b */ ]"),
+    ];
+    for (script, want) in cases {
+        let told = told(rt.alloc(), script)?;
+        assert_eq!(rt; told.as_slice(), want, "of {script:?}");
+    }
+    Ok(())
+}
+
+/// The moves of a schedule for `sessions`, each as `S*K;`, or why it cannot be read.
+fn moves_of(alloc: Global, schedule: &[u8], sessions: u32) -> Result<String, AllocError> {
+    let mut shown = String::new(alloc);
+    match read_schedule(alloc, schedule, sessions) {
+        Ok(schedule) => {
+            for step in schedule.moves.as_slice() {
+                let session = step.session;
+                let count = step.count;
+                write!(shown, "{session}*{count};")?;
+            }
+        }
+        Err(fault) => write!(shown, "{fault}")?,
+    }
+    Ok(shown)
+}
+
+#[test]
+fn schedules_are_read(rt: HostRuntime) -> Result<(), Fail> {
+    let cases: [(&[u8], u32, &str); 32] = [
+        (b"", 1, ""),
+        (b"\n\r\n", 1, ""),
+        (b"1 4", 1, "bad schedule at line 1"),
+        (b"1 4", 4, "1*1;4*1;"),
+        (b"1*10001", 1, "bad schedule at line 1"),
+        (b"1*10000", 1, "1*10000;"),
+        (b"01", 1, "bad schedule at line 1"),
+        (b" 1", 1, "bad schedule at line 1"),
+        (b"1\n1  1", 1, "bad schedule at line 2"),
+        (b"1 \n", 1, "bad schedule at line 1"),
+        (b" ", 1, "bad schedule at line 1"),
+        (b"2*3 1\r\n# 5 x\r\n\r\n1", 2, "2*3;1*1;1*1;"),
+        (b"#\xff*\n1\n", 1, "1*1;"),
+        (b"1 # 1", 1, "bad schedule at line 1"),
+        (b"1\r", 1, "bad schedule at line 1"),
+        (b"1\n\r", 1, "bad schedule at line 2"),
+        (b"1\r\r\n", 1, "bad schedule at line 1"),
+        (b"1\t1", 1, "bad schedule at line 1"),
+        (b"0", 1, "bad schedule at line 1"),
+        (b"1*0", 1, "bad schedule at line 1"),
+        (b"1*01", 1, "bad schedule at line 1"),
+        (b"1*", 1, "bad schedule at line 1"),
+        (b"*2", 1, "bad schedule at line 1"),
+        (b"1*2*3", 1, "bad schedule at line 1"),
+        (b"+1", 1, "bad schedule at line 1"),
+        (b"-1", 1, "bad schedule at line 1"),
+        (b"1*+2", 1, "bad schedule at line 1"),
+        (b"c1", 1, "bad schedule at line 1"),
+        (b"\xff", 1, "bad schedule at line 1"),
+        (b"4294967296", 4_294_967_295, "bad schedule at line 1"),
+        (b"4294967295", 4_294_967_295, "4294967295*1;"),
+        (b"1", 0, "bad schedule at line 1"),
+    ];
+    for (schedule, sessions, want) in cases {
+        let shown = moves_of(rt.alloc(), schedule, sessions)?;
+        assert_eq!(rt; shown.as_str(), want, "of {schedule:?}");
+    }
+    Ok(())
+}
+
+#[test]
+fn words_of_schedules_are_counted(rt: HostRuntime) -> Result<(), Fail> {
+    let mut schedule = Vec::new(rt.alloc());
+    for _ in 0..5_000 {
+        schedule.extend_from_slice(b"1 2*3\n")?;
+    }
+    let read = read_schedule(rt.alloc(), schedule.as_slice(), 2)?;
+    assert_eq!(rt; read.moves.len(), 10_000);
+    schedule.extend_from_slice(b"\n#\n1")?;
+    let shown = moves_of(rt.alloc(), schedule.as_slice(), 2)?;
+    assert_eq!(rt; shown.as_str(), "bad schedule at line 5003");
     Ok(())
 }
 

@@ -1,4 +1,4 @@
-use Rattle.std.proofs.Common.{◌≡◌, ◌+◌, ◌<◌, ◌≤◌, length, refl, true, false, Some, None, sym, ap, arith}
+use Rattle.std.proofs.Common.{◌≡◌, ◌+◌, ◌<◌, ◌≤◌, length, refl, true, false, Some, None, arith}
 use Rattle.dw_parse.specs.Words.{is_comma, sign_at}
 use Rattle.dw_parse.specs.Reading.{listed_at, column_at}
 use Rattle.dw_parse.proofs.GrammarLemmas.{sign_within, column_spans, column_sound}

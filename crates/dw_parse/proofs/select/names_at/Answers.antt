@@ -1,4 +1,4 @@
-use Rattle.std.proofs.Common.{◌≡◌, ◌+◌, ◌<◌, true, false, Some, None, sym, ap, arith}
+use Rattle.std.proofs.Common.{◌≡◌, ◌+◌, ◌<◌, true, false, Some, None, ap, arith}
 use Rattle.dw_parse.specs.Words.{is_comma, sign_at, name_at}
 use Rattle.dw_parse.specs.Reading.{listed_at, named_at, reach}
 use Rattle.dw_parse.proofs.ListLemmas.{reads_all, reads_more, reads_last, reads_none}

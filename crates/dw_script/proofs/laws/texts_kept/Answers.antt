@@ -1,5 +1,5 @@
-use Rattle.dw_script.proofs.Quoted.{statements-quoted, open_text-quoted}
+use Rattle.dw_script.proofs.Quoted.{statements-quoted, ends_outside-quoted, statements-named, ends_outside-named}
 use Rattle.dw_script.proofs.laws.texts_kept.Goals as goal
 
 pub returns : goal.returns
-returns c = record { statements = statements-quoted; closed = open_text-quoted }
+returns c = record { statements = statements-quoted; closed = ends_outside-quoted; names = statements-named; names_closed = ends_outside-named }

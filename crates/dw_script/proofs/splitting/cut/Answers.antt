@@ -9,6 +9,7 @@ unfolding statements
 loop-at-init c = record {
   begun = omega arith;
   few = rw c.new-statements.ensures (search rules);
+  nested = omega arith;
   come = rw c.new-statements.ensures (to_come-start c.args.bytes.now);
 }
 
@@ -22,7 +23,8 @@ loop-at-preserved c =
           record {
             begun = omega arith;
             few = search rules;
-            come = rw (w.statements-is, w.begin-is, c.after-place.ensures, w.in_ok-push_statement.ensures.ok)
+            nested = omega (arith, c.after-place.ensures.deeper);
+            come = rw (w.statements-is, w.begin-is, c.after-place.ensures.place, w.in_ok-push_statement.ensures.ok)
                 (append_assoc done _ _ ∙ ap (λ (rest : List (List ℕ)). done ++ rest) (sym next) ∙ c.loop-at.invariant.come);
           }
       | else-ends_statement w ↦
@@ -30,7 +32,8 @@ loop-at-preserved c =
           record {
             begun = omega arith;
             few = search rules;
-            come = rw (w.statements-is, w.begin-is, c.after-place.ensures)
+            nested = omega (arith, c.after-place.ensures.deeper);
+            come = rw (w.statements-is, w.begin-is, c.after-place.ensures.place)
                 (ap (λ (rest : List (List ℕ)). done ++ rest) (sym more) ∙ c.loop-at.invariant.come);
           }
     ]
