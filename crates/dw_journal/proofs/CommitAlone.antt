@@ -22,7 +22,7 @@ use Rattle.dw_model.specs.declared.tables.Table.{Table}
 use Rattle.dw_model.specs.Databases.{Tables, rows_of, rows_in, def_of}
 use Rattle.dw_model.specs.Binding.{same_name, create_refusal, insert_refusal, rows_go_with}
 use Rattle.dw_model.specs.Alone.{alone, unless_refused, after, next_of, table_made, insert_done, rows_added, select_done, admitted_rows, inserted_in}
-use Rattle.dw_journal.specs.Contents.{after_commit, with_def, with_rows, with_rows_in}
+use Rattle.dw_journal.specs.Contents.{after_commit, with_table}
 
 -- a name is the same as itself
 pub same_name-self : (name : List ℕ) → same_name name name ≡ true
@@ -56,37 +56,25 @@ unless_done : (refusal : Option Refusal) (plain : Plain) (answer : Reply) (next 
 unless_done None plain answer next done = (refl, done)
 unless_done (Some refusal) plain answer next done = cc
 
-create_absent : (spec : TableSpec) (found : Option Table) → create_refusal spec found ≡ None → found ≡ None
-create_absent spec None bound = refl
-create_absent spec (Some table) bound = cc
+same_next : (first second : Reply) (a b : Tables) → ◌≡◌ {A = Plain} (Done first a) (Done second b) → a ≡ b
+same_next first second a b e = cc
 
 next_done : (plain : Plain) (tables next : Tables) (answer : Reply) → plain ≡ Done answer next → after plain tables ≡ next
 next_done plain tables next answer done = ap (λ p. after p tables) done
 
--- CREATE: the definition and no rows, in a place where there was no table
-module _ (name : List ℕ) (table : Table) (tables : Tables) (absent : map_of.get tables name ≡ None) (no_rows : table.rows ≡ []) where
+-- CREATE: the definition and no rows
+module _ (name : List ℕ) (table : Table) (tables : Tables) where
   abbrev created : Tables
   created = map_of.insert tables name table
 
-  rows_created : rows_of created name ≡ table.rows
-  rows_created = ap rows_in (get_inserted tables name table)
-
-  def_created : with_def name (def_of created name) tables ≡ created
-  def_created =
-      ap (λ found. with_def name (option_map (λ (t : Table). t.def) found) tables) (get_inserted tables name table)
-      ∙ ap (λ (rows : List Row). map_of.insert tables name (record { def = table.def; rows = rows })) (ap rows_in absent ∙ sym no_rows)
-
-  commit_created : with_rows name (rows_of created name) (with_def name (def_of created name) tables) ≡ created
-  commit_created =
-      ap (λ w. with_rows name (rows_of created name) w) def_created
-      ∙ ap (λ found. with_rows_in name (rows_of created name) found created) (get_inserted tables name table)
-      ∙ ap (λ (rows : List Row). map_of.insert created name (record { def = table.def; rows = rows })) rows_created
-      ∙ insert_twice tables name table
+  -- its table as it is in the view, put there twice
+  commit_created : with_table name (def_of created name) (rows_of created name) (with_table name (def_of created name) (rows_of created name) tables) ≡ created
+  commit_created = rw (get_inserted tables name table) (insert_twice tables name table)
 
 -- INSERT: the former rows with the inserted ones
 commit_rows : (name : List ℕ) (tables next : Tables) (answer : Reply) (table : Table) (count : ℕ) (admitted : Option (List Row))
     → rows_added name tables table count admitted ≡ Done answer next
-    → with_rows_in name (add_sorted row_cmp (unwrap_or admitted []) table.rows) (Some table) tables ≡ next
+    → with_table name (Some table.def) (add_sorted row_cmp (unwrap_or admitted []) table.rows) tables ≡ next
 commit_rows name tables next answer table count None done = cc
 commit_rows name tables next answer table count (Some admitted) done = cc
 
@@ -96,7 +84,7 @@ all_go false refusal bound = cc
 
 commit_inserted : (name : List ℕ) (rows : List Row) (tables next : Tables) (answer : Reply) (found : Option Table)
     → insert_refusal name rows found ≡ None → insert_done name rows tables found ≡ Done answer next
-    → with_rows_in name (add_sorted row_cmp (inserted_in rows found) (rows_in found)) found tables ≡ next
+    → with_table name (option_map (λ (t : Table). t.def) found) (add_sorted row_cmp (inserted_in rows found) (rows_in found)) tables ≡ next
 commit_inserted name rows tables next answer None bound done = cc
 commit_inserted name rows tables next answer (Some table) bound done =
     let goes : rows_go_with table.def.columns rows ≡ true = all_go _ _ bound in
@@ -116,10 +104,9 @@ after_commit-alone Rollback tables next answer done = cc
 after_commit-alone (Vacuum table) tables next answer done = cc
 after_commit-alone (Create spec) tables next answer done =
     let bound = unless_done _ _ answer next done in
-    let absent = create_absent spec _ bound.0 in
-    let made : map_of.insert tables spec.name (table_made spec) ≡ next = cc in
+    let made : map_of.insert tables spec.name (table_made spec) ≡ next = same_next _ answer _ next bound.1 in
     let left : next_of (Create spec) tables ≡ map_of.insert tables spec.name (table_made spec) = next_done _ tables next answer done ∙ sym made in
-    rw (same_name-self spec.name, left) (commit_created spec.name (table_made spec) tables absent refl ∙ made)
+    rw (same_name-self spec.name, left) (commit_created spec.name (table_made spec) tables ∙ made)
 after_commit-alone (Insert name rows) tables next answer done =
     let bound = unless_done _ _ answer next done in
     rw (same_name-self name, append-nil) (commit_inserted name rows tables next answer _ bound.0 bound.1)

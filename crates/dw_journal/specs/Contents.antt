@@ -34,31 +34,34 @@ inserted_by [] tables name = []
 inserted_by (statement ∷ later) tables name =
     (if is_among (Rows name) (writes_of statement) then inserted statement tables else []) ++ inserted_by later (next_of statement tables) name
 
--- a database with this definition under a name, or with no table there
-abbrev pub with_def : List ℕ → Option TableDef → Tables → Tables
-with_def name None tables = map_of.remove tables name
-with_def name (Some def) tables = map_of.insert tables name (record { def = def; rows = rows_of tables name })
+-- The definition of a table once a transaction of these statements is committed. `start` is the database at its snapshot,
+-- and `before` the committed one. A definition that it wrote is as in its view; another one stays.
+abbrev pub def_after : List Statement → Tables → Tables → List ℕ → Option TableDef
+def_after statements start before name =
+    if is_among (Def name) (writes_in statements) then def_of (view_after start statements) name else def_of before name
 
--- a database with these rows in a table, where there is that table
-abbrev pub with_rows_in : List ℕ → List Row → Option Table → Tables → Tables
-with_rows_in name rows None tables = tables
-with_rows_in name rows (Some table) tables = map_of.insert tables name (record { def = table.def; rows = rows })
+-- The rows of a table once it is committed. Rows that it read and wrote are as in its view. Rows that it wrote and didn't
+-- read are the former rows with those that its statements inserted. Others stay.
+abbrev pub rows_after : List Statement → Tables → Tables → List ℕ → List Row
+rows_after statements start before name =
+    if is_among (Rows name) (writes_in statements) then (if is_among (Rows name) (reads_in statements) then rows_of (view_after start statements) name else add_sorted row_cmp (inserted_by statements start name) (rows_of before name)) else rows_of before name
 
-abbrev pub with_rows : List ℕ → List Row → Tables → Tables
-with_rows name rows tables = with_rows_in name rows (map_of.get tables name) tables
+-- a database with this table under a name, or with none there
+abbrev pub with_table : List ℕ → Option TableDef → List Row → Tables → Tables
+with_table name None rows tables = map_of.remove tables name
+with_table name (Some def) rows tables = map_of.insert tables name (record { def = def; rows = rows })
 
--- One object of a commit. What the transaction read and wrote is as in its view. Rows that it wrote and didn't read are
--- the former rows with those that its statements inserted. `start` is the database at its snapshot.
-abbrev pub commit_object : List Statement → Tables → Tables → Object → Tables
-commit_object statements start tables (Def name) = with_def name (def_of (view_after start statements) name) tables
-commit_object statements start tables (Rows name) =
-    with_rows name (if is_among (Rows name) (reads_in statements) then rows_of (view_after start statements) name else add_sorted row_cmp (inserted_by statements start name) (rows_of tables name)) tables
+-- the table of an object
+abbrev pub table_of : Object → List ℕ
+table_of (Def name) = name
+table_of (Rows name) = name
 
--- all the objects that it wrote; all else stays
-abbrev pub commit_objects : List Statement → Tables → Tables → List Object → Tables
-commit_objects statements start tables [] = tables
-commit_objects statements start tables (object ∷ objects) =
-    commit_objects statements start (commit_object statements start tables object) objects
+-- a database in which the tables of these objects are as the transaction leaves them
+abbrev pub with_tables : List Statement → Tables → Tables → List Object → Tables → Tables
+with_tables statements start before [] tables = tables
+with_tables statements start before (object ∷ objects) tables =
+    let name = table_of object in
+    with_table name (def_after statements start before name) (rows_after statements start before name) (with_tables statements start before objects tables)
 
 -- the database after so many commits, from those after 0, 1, .. commits, newest first
 abbrev pub state_at : List Tables → ℕ → Tables
@@ -69,9 +72,9 @@ abbrev pub newest_state : List Tables → Tables
 newest_state [] = map_of.empty
 newest_state (tables ∷ older) = tables
 
--- the database once these statements, which saw the database `start`, are committed on `tables`
+-- the database once these statements, which saw the database `start`, are committed on `before`
 abbrev pub after_commit : List Statement → Tables → Tables → Tables
-after_commit statements start tables = commit_objects statements start tables (writes_in statements)
+after_commit statements start before = with_tables statements start before (writes_in statements) before
 
 -- the databases after all commits, after all but the last, .., and after none, which is the empty database
 abbrev pub states : Scripts → List Committed → List Tables
