@@ -1,5 +1,5 @@
 -- Values of each shape, and their items.
-use Rattle.std.proofs.Common.{◌≡◌, ℕ, None, Ok, Err, List, [], length, map, refl, sym, ap, ◌∙◌}
+use Rattle.std.proofs.Common.{◌≡◌, ℕ, ℤ, None, Ok, Err, List, [], length, map, refl, sym, ap, ◌∙◌}
 use Rattle.std.specs.Prelude.{Result, All, IfOk, IfErr}
 use Rattle.std.specs.List.{concat}
 use Rattle.std.proofs.lemmas.List.{append-nil, length-map}
@@ -10,9 +10,10 @@ use Rattle.dw_codec_plain.specs.Encodings.{IsText, raw_text}
 use Rattle.dw_codec_plain.specs.Spelling.{spelled, IsListOf, Explains}
 use Rattle.dw_codec_plain.proofs.Signed.{same_number}
 use Rattle.dw_codec_plain.proofs.TextItems.{texts_apart}
-use Rattle.dw_codec_runs.specs.Dictionary.{dictionary}
+use Rattle.dw_codec_runs.specs.Dictionary.{dictionary, bytedict, bytedict_texts}
 use Rattle.dw_codec_runs.specs.DictionaryParts.{IsItemOf, IsNumberItem, IsTextItem, IsShape, IsUnpacked}
 use Rattle.dw_codec_runs.specs.declared.dictionary_item.Shape.{Shape}
+use Rattle.dw_codec_runs.specs.declared.dictionary_item.Shape.TheVariants.{Number, Text}
 use Rattle.dw_codec_runs.proofs.DictionaryEncoding.{AreSpelled, all_spelled, values_of, same_values, damaged_values, raw_is, unpacked_is, dictionary_one}
 use Rattle.dw_codec_runs.proofs.DictionaryReady.{are_items}
 
@@ -67,3 +68,10 @@ module _ (shape : Shape) (is : IsShape shape) {X : Type 0} (Fits : X → Type 0)
   one_spelling xs ys each each' same =
       same_values Fits spell (IsItemOf shape) are xs ys each each'
       (dictionary_one (IsItemOf shape) (are_items shape is) (map spell xs) (map spell ys) (all_spelled Fits spell (IsItemOf shape) are xs each) (all_spelled Fits spell (IsItemOf shape) are ys each') same)
+
+-- BYTEDICT has one form
+pub bytedict_form : (width : ℕ) (values others : List ℤ) → IsWidth width → All (FitsWidth width) values → All (FitsWidth width) others → bytedict width values ≡ bytedict width others → values ≡ others
+bytedict_form width values others is fits fits' same = one_spelling (Number width) is (FitsWidth width) (number width) (numbers_spelled width is) values others fits fits' same
+
+pub bytedict_texts_form : (values others : List (List ℕ)) → All IsText values → All IsText others → bytedict_texts values ≡ bytedict_texts others → values ≡ others
+bytedict_texts_form values others fits fits' same = one_spelling Text tt IsText raw_text texts_spelled values others fits fits' same

@@ -1,8 +1,6 @@
 -- The parts of a dictionary's spelling, and what may follow behind each. The decoder's own functions cite these.
 use Rattle.std.specs.Prelude.{ℤ, not, nat_eq, ◌≡◌, ◌≢◌, ℕ, ◌+◌, ◌≤◌, ◌<◌, ◌⊎◌, suc, Bool, true, false, List, [], ◌∷◌, ◌++◌, length, map, fold, slice_index_or, take, All}
 use Rattle.std.specs.List.{concat}
-use Rattle.dw_codec_plain.specs.declared.fault.CodecFault.{CodecFault}
-use Rattle.dw_codec_plain.specs.declared.fault.CodecFault.TheVariants.{Damaged, Memory}
 use Rattle.dw_codec_plain.specs.Numbers.{FitsWidth, IsWidth, low_bytes, number}
 use Rattle.dw_codec_plain.specs.Encodings.{IsText, raw_text}
 use Rattle.dw_codec_plain.specs.Spelling.{IsLongestFront, IsListOf}
@@ -37,11 +35,6 @@ pub record IsBroken (T : List ℕ → Type 0) (bytes : List ℕ) (place : ℕ) :
 -- the bytes begin with no item
 abbrev pub NoneFirst : (List ℕ → Type 0) → List ℕ → Type 0
 NoneFirst Is bytes = (item rest : List ℕ) → Is item → bytes ≢ item ++ rest
-
--- the bytes are broken, or memory ran out
-abbrev pub IsFault : CodecFault → (List ℕ → Type 0) → List ℕ → Type 0
-IsFault (Damaged place) T bytes = IsBroken T bytes place
-IsFault Memory T bytes = Unit {0}
 
 -- the texts of one kind are those of another
 pub record AreSame (A B : List ℕ → Type 0) : Type 0 where
@@ -96,7 +89,7 @@ pub record HasPlain (Is : List ℕ → Type 0) (known : List (List ℕ)) (r : �
 abbrev pub MayCome : ℕ → ℕ → ℕ → ℕ → Type 0
 MayCome n k r place = ((place < k) × (n ≤ k + r)) ⊎ ((place ≡ k) × (k < n))
 
--- a place that may come with k of n known and r places behind it
+-- the one byte of such a place
 pub record IsPlace (n k r : ℕ) (t : List ℕ) : Type 0 where
   pub place : ℕ
   pub may : MayCome n k r place

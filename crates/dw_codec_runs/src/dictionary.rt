@@ -1,4 +1,5 @@
-//! BYTEDICT: the different values, and the place of each value among them.
+//! BYTEDICT: the different values, and the place of each value among them. The encoding is that of the Amazon Redshift
+//! guide (compression encodings); the layout of its bytes is this project's own.
 
 ghost use Rattle.std.specs.Prelude.{◌≡◌, ◌≤◌, ℕ, ℤ, List, length, All, IfOk, IfErr};
 ghost use Rattle.dw_codec_plain.specs.Numbers.{IsWidth, FitsWidth};

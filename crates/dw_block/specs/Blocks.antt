@@ -1,0 +1,120 @@
+-- The bytes of a block, and which encodings a kind may have. The encodings are those of the Amazon Redshift guide
+-- (compression encodings); the layout of their bytes is this project's own.
+use Rattle.std.specs.Prelude.{◌≡◌, ℕ, ◌≤◌, nat_le, nat_lt, ℤ, pos, Bool, true, false, not, ◌&&◌, Option, None, Some, Ok, List, ◌++◌, IsTrue, IsUtf8, if◌then◌else◌}
+use Rattle.std.specs.List.{filter_map}
+use Rattle.std.specs.Ordering.{int_eq}
+use Rattle.dw_value.specs.declared.kinds.Kind.{Kind}
+use Rattle.dw_value.specs.declared.kinds.Kind.TheVariants.{Small, Int, Big, Decimal, Char, Varchar, Date, Bool as Boolean}
+use Rattle.dw_value.specs.declared.kinds.Encoding.{Encoding}
+use Rattle.dw_value.specs.declared.kinds.Encoding.TheVariants.{Raw, Bytedict, Delta, Delta32k, Mostly8, Mostly16, Mostly32, Runlength}
+use Rattle.dw_value.specs.declared.values.Value.{Value}
+use Rattle.dw_value.specs.declared.values.Value.TheVariants.{Number, Words, Day, Truth}
+use Rattle.dw_value.specs.Values.{takes_numbers, takes_texts, goes_with, admitted}
+use Rattle.dw_codec_plain.specs.Encodings.{raw, raw_texts, mostly, IsText}
+use Rattle.dw_codec_delta.specs.Delta.{delta}
+use Rattle.dw_codec_runs.specs.Runs.{runlength, runlength_texts}
+use Rattle.dw_codec_runs.specs.Dictionary.{bytedict, bytedict_texts}
+use Rattle.dw_block.specs.Nulls.{null_bits}
+
+-- how many bytes the numbers of a kind take: those of the guide, and one for a truth
+abbrev pub width : Kind → ℕ
+width Small = 2
+width Int = 4
+width Big = 8
+width (Decimal precision scale) = if nat_le precision 18 then 8 else 16
+width Date = 4
+width kind = 1
+
+-- whether a kind's numbers may be spelled by their differences
+abbrev pub has_steps : Kind → Bool
+has_steps Date = true
+has_steps kind = takes_numbers kind
+
+-- whether a column of this kind may have the encoding: RAW and RUNLENGTH for all, BYTEDICT for all but truths, the others
+-- where their short forms are shorter than the kind's numbers
+abbrev pub allows : Encoding → Kind → Bool
+allows Raw kind = true
+allows Bytedict Boolean = false
+allows Bytedict kind = true
+allows Delta kind = has_steps kind
+allows Delta32k kind = has_steps kind && nat_lt 2 (width kind)
+allows Mostly8 kind = takes_numbers kind
+allows Mostly16 kind = takes_numbers kind && nat_lt 2 (width kind)
+allows Mostly32 kind = takes_numbers kind && nat_lt 4 (width kind)
+allows Runlength kind = true
+
+-- the kind is within its limits: 38 digits, 65,535 bytes
+abbrev pub IsKind : Kind → Type 0
+IsKind (Decimal precision scale) = precision ≤ 38
+IsKind (Char limit) = limit ≤ 65535
+IsKind (Varchar limit) = limit ≤ 65535
+IsKind kind = Unit {0}
+
+-- the value is NULL, or one that a column of the kind holds, as it holds it
+pub record IsOf (kind : Kind) (value : Value) : Type 0 where
+  pub goes : IsTrue (goes_with kind value)
+  pub held : admitted kind value ≡ Ok value
+
+-- a text that a block may hold
+pub record IsStored (text : List ℕ) : Type 0 where
+  pub is : IsText text
+  pub utf8 : IsUtf8 text
+
+-- a value as a number: itself, a day's number, 0 for false and 1 for true
+abbrev pub number_in : Value → Option ℤ
+number_in (Number n) = Some n
+number_in (Day n) = Some n
+number_in (Truth false) = Some (pos 0)
+number_in (Truth true) = Some (pos 1)
+number_in value = None
+
+-- the value of a kind that a number stands for
+abbrev pub value_of : Kind → ℤ → Value
+value_of Date n = Day n
+value_of Boolean n = Truth (not (int_eq n (pos 0)))
+value_of kind n = Number n
+
+-- a value as a text
+abbrev pub text_in : Value → Option (List ℕ)
+text_in (Words text) = Some text
+text_in value = None
+
+-- the numbers of the values that aren't NULL
+abbrev pub numbers_of : List Value → List ℤ
+numbers_of values = filter_map number_in values
+
+-- the texts of the values that aren't NULL
+abbrev pub texts_of : List Value → List (List ℕ)
+texts_of values = filter_map text_in values
+
+-- the encoding of numbers
+abbrev pub encoded : Encoding → ℕ → List ℤ → List ℕ
+encoded Raw width = raw width
+encoded Bytedict width = bytedict width
+encoded Delta width = delta width 1
+encoded Delta32k width = delta width 2
+encoded Mostly8 width = mostly width 1
+encoded Mostly16 width = mostly width 2
+encoded Mostly32 width = mostly width 4
+encoded Runlength width = runlength width
+
+-- the encoding of texts, which have no short forms of numbers
+abbrev pub encoded_texts : Encoding → List (List ℕ) → List ℕ
+encoded_texts Bytedict = bytedict_texts
+encoded_texts Runlength = runlength_texts
+encoded_texts encoding = raw_texts
+
+-- the encoding of the values that aren't NULL
+abbrev pub items_bytes : Encoding → Kind → List Value → List ℕ
+items_bytes encoding kind values =
+    if takes_texts kind then encoded_texts encoding (texts_of values) else encoded encoding (width kind) (numbers_of values)
+
+-- the bytes of a block: the null bits, and then these
+abbrev pub block_bytes : Encoding → Kind → List Value → List ℕ
+block_bytes encoding kind values = null_bits values ++ items_bytes encoding kind values
+
+-- what a block shows: how its values are spelled, of which kind they are, and they themselves
+pub record Shown : Type 0 where
+  pub encoding : Encoding
+  pub kind : Kind
+  pub values : List Value

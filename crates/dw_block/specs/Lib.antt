@@ -1,0 +1,9 @@
+pub mod Zones
+pub mod Nulls
+pub mod Blocks
+pub mod Stored
+pub mod NullBits
+pub mod Places
+pub mod Forms
+pub mod Unique
+pub mod Held

@@ -1,0 +1,166 @@
+//! Zones: the least and the greatest value of a block, and how many NULLs it has.
+ghost use Rattle.std.specs.Prelude.{◌≡◌, ◌≤◌, length, IfOk};
+ghost use Rattle.std.specs.Option.{option_copied};
+ghost use Rattle.std.specs.List.{count_by};
+ghost use Rattle.std.specs.Ordering.{flip_args};
+ghost use Rattle.dw_value.specs.Values.{value_cmp, is_null};
+ghost use Rattle.dw_block.specs.Zones.{earlier, least_of, greatest_of, zone_of, may_hold, may_match, HasScale};
+
+use dw_value::{Comparison, Value, compare, compare_at};
+use std::alloc::AllocError;
+use std::cmp::Ordering;
+
+/// What a reader may know of a block's values without decoding them.
+#[derive(Debug, Drop)]
+pub struct Zone {
+    /// The least value that isn't NULL, in the order of values. There is none where all are NULL.
+    pub least: Option<Value>,
+    /// The greatest value that isn't NULL, in the order of values. There is none where all are NULL.
+    pub greatest: Option<Value>,
+    /// How many values are NULL.
+    pub nulls: u32,
+}
+
+/// One condition on a column's value.
+#[derive(Debug, Drop)]
+pub enum Test {
+    /// The column's value is compared with this one, which stands on the right side and is given at `scale`, from 0 to 37.
+    Compare {
+        comparison: Comparison,
+        value: Value,
+        scale: u8,
+    },
+    /// IS NULL
+    IsNull,
+    /// IS NOT NULL
+    NotNull,
+}
+
+/// The least value that isn't NULL.
+fn least(values: &[Value]) -> Option<&Value>
+    ensures { option_copied result ≡ least_of values.now }
+{
+    let mut least: Option<&Value> = None;
+    for value in values {
+        least = lesser(least, value);
+    }
+    least
+}
+
+/// Of the least value so far and one more, the least, where NULL is passed over.
+fn lesser<'a>(least: Option<&'a Value>, value: &'a Value) -> Option<&'a Value>
+    ensures { option_copied result ≡ earlier value_cmp (option_copied least.entry) value.now }
+{
+    if value.is_null() {
+        return least;
+    }
+    match least {
+        Some(found) if compare(value, found).is_ge() => least,
+        _ => Some(value),
+    }
+}
+
+/// The greatest value that isn't NULL.
+fn greatest(values: &[Value]) -> Option<&Value>
+    ensures { option_copied result ≡ greatest_of values.now }
+{
+    let mut greatest: Option<&Value> = None;
+    for value in values {
+        greatest = greater(greatest, value);
+    }
+    greatest
+}
+
+/// Of the greatest value so far and one more, the greatest, where NULL is passed over.
+fn greater<'a>(greatest: Option<&'a Value>, value: &'a Value) -> Option<&'a Value>
+    ensures { option_copied result ≡ earlier (flip_args value_cmp) (option_copied greatest.entry) value.now }
+{
+    if value.is_null() {
+        return greatest;
+    }
+    match greatest {
+        Some(found) if compare(found, value).is_ge() => greatest,
+        _ => Some(value),
+    }
+}
+
+/// How many of the values are NULL.
+fn null_count(values: &[Value]) -> u32
+    requires { length values.now ≤ 4096 }
+    ensures { result ≡ count_by is_null values.now }
+{
+    let mut nulls = 0;
+    for value in values {
+        if value.is_null() {
+            nulls += 1;
+        }
+    }
+    nulls
+}
+
+/// A copy of the value, if there is one.
+fn copy_of(value: Option<&Value>) -> Result<Option<Value>, AllocError>
+    ensures { IfOk result (λ copy. copy ≡ option_copied value.entry) }
+{
+    match value {
+        Some(value) => Ok(Some(value.copy()?)),
+        None => Ok(None),
+    }
+}
+
+/// The zone of the values. A text is copied on its own allocator.
+pub fn zone_of(values: &[Value]) -> Result<Zone, AllocError>
+    requires { length values.now ≤ 4096 }
+    ensures { IfOk result (λ zone. zone ≡ zone_of values.now) }
+{
+    let least = copy_of(least(values))?;
+    let greatest = copy_of(greatest(values))?;
+    let nulls = null_count(values);
+    Ok(Zone {
+        least,
+        greatest,
+        nulls,
+    })
+}
+
+/// Whether a comparison with a value may hold of values between two bounds, which stand so to it.
+fn may_hold(comparison: Comparison, least: Ordering, greatest: Ordering) -> bool
+    ensures { result ≡ may_hold comparison least greatest }
+{
+    match comparison {
+        Comparison::Equal => least.is_le() && greatest.is_ge(),
+        Comparison::Unequal => least.is_ne() || greatest.is_ne(),
+        Comparison::Less => least.is_lt(),
+        Comparison::AtMost => least.is_le(),
+        Comparison::Greater => greatest.is_gt(),
+        Comparison::AtLeast => greatest.is_ge(),
+    }
+}
+
+/// Whether some value of a block may pass the test, where this is the block's zone, and its column has the scale
+/// `zone_scale`, at most 37. False is exact: then no value passes. A comparison with NULL never matches; `=` matches where
+/// least <= value <= greatest, `<>` unless both equal it, `<` where least < value, `<=` where least <= value, `>` where
+/// greatest > value and `>=` where greatest >= value, numbers as exact numbers at their scales; none of them does where all
+/// values are NULL. IS NULL wants a NULL, IS NOT NULL another value. It takes no memory.
+pub fn may_match(zone: &Zone, zone_scale: u8, test: &Test) -> bool
+    requires zone_scale { zone_scale ≤ 37 }
+    requires test_scale { HasScale test.now }
+    ensures { result ≡ may_match zone.now zone_scale test.now }
+{
+    match test {
+        Test::Compare {
+            comparison,
+            value,
+            scale,
+        } => match (&zone.least, &zone.greatest) {
+            (Some(least), Some(greatest)) if !value.is_null() => may_hold(
+                *comparison,
+                compare_at(least, zone_scale, value, *scale),
+                compare_at(greatest, zone_scale, value, *scale),
+            ),
+            _ => false,
+        },
+        Test::IsNull => zone.nulls > 0,
+        Test::NotNull => zone.least.is_some(),
+    }
+}
