@@ -1,0 +1,8 @@
+//! The serial order of the committed transactions of a journal, and the theorem that every legal journal is serial.
+#![tactic(auto)]
+
+mod laws;
+mod order;
+
+pub use laws::legal_is_serial;
+pub use order::serial_order;
