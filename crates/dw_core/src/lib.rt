@@ -7,3 +7,6 @@ mod run;
 mod session;
 
 pub use run::{Ran, run_script};
+
+#[cfg(test)]
+mod tests;

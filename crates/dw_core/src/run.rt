@@ -58,37 +58,3 @@ pub fn run_script(alloc: Global, script: &[Given]) -> Result<Ran, AllocError>
         serial,
     })
 }
-
-#[cfg(test)]
-mod tests {
-    use super::*;
-    use dw_model::{ColumnSpec, Refusal, Statement, TableSpec};
-    use dw_value::{Kind, Text};
-    use std::test::Fail;
-
-    /// A statement that isn't in the grammar, CREATE TABLE t (x INTEGER), and the same again: a refusal, then an opened,
-    /// an answered and a committed statement, then a refusal, and the end.
-    #[test]
-    fn runs_a_script(rt: HostRuntime) -> Result<(), Fail> {
-        let alloc = rt.alloc();
-        let mut script = List::new(alloc);
-        script.push(Given::Refused(Refusal::Syntax { place: 0 }))?;
-        for _ in 0..2 {
-            let mut columns = List::new(alloc);
-            let name = Text::from_str(alloc, "x")?;
-            columns.push(ColumnSpec {
-                name,
-                kind: Kind::Int,
-            })?;
-            let name = Text::from_str(alloc, "t")?;
-            let spec = TableSpec { name, columns };
-            script.push(Given::Read(Statement::Create { spec }))?;
-        }
-        assert_eq!(rt; script.len(), 3);
-        let ran = run_script(alloc, script.as_slice())?;
-        assert_eq!(rt; ran.journal.events.len(), 6);
-        assert_eq!(rt; ran.database.len(), 1);
-        assert_eq!(rt; ran.serial.as_slice(), [1].as_slice());
-        Ok(())
-    }
-}
