@@ -4,7 +4,7 @@ ghost use Rattle.dw_model.specs.Databases.{IsAscending};
 
 use crate::report_text;
 use dw_journal::{Event, Journal, Route, Shape};
-use dw_model::{Answer, Column, Database, Refusal, Table, TableDef, Word};
+use dw_model::{Answer, Column, Database, Object, Refusal, Table, TableDef, Word};
 use dw_value::{Field, Kind, List, Row, Text, Value, sort_rows};
 use std::alloc::{AllocError, Global};
 use std::test::Fail;
@@ -263,5 +263,128 @@ fn fields_are_kept_apart(rt: HostRuntime) -> Result<(), Fail> {
     let expected =
         b"warehouse nodes 2 slices 2 clusters 1 slots 5 sessions 64\n1 open 1 7 snapshot 6 main\n2 answer 1 7 SELECT 4\n= a\\|b\n- \n- \\\\N\n- \\|\n- -9\n3 commit 1 7 stamp 7 low 7 high 18446744073709551615\ntables 2\ntable a\\\\ rows 0\ntable u rows 3\n- -2147483648|\n- 0|\\n\n- 0|a\\|b\nserial 7\n";
     assert_eq!(rt; report.as_slice(), expected.as_slice());
+    Ok(())
+}
+
+/// Events of a block in session 2: its begin, passes, waits, an opening, two violations, a rollback.
+fn push_block(events: &mut List<Event>, alloc: Global) -> Result<(), AllocError> {
+    let session = 2;
+    events.push(Event::Begin {
+        session,
+        statement: 1,
+    })?;
+    for word in [Word::Begin, Word::Commit, Word::Rollback] {
+        events.push(Event::Pass {
+            session,
+            statement: 2,
+            word,
+        })?;
+    }
+    for holders in [[1, 3].as_slice(), [64].as_slice()] {
+        events.push(Event::Wait {
+            session,
+            statement: 3,
+            holders: List::from_vec(Vec::from_slice(alloc, holders)?),
+        })?;
+    }
+    events.push(Event::Opened {
+        session,
+        statement: 3,
+        snapshot: 4,
+        route: Route::Cluster(1),
+    })?;
+    let rows = Object::Rows(Text::from_str(alloc, "y")?);
+    let def = Object::Def(Text::from_str(alloc, "a|b")?);
+    for object in vec![in alloc; rows, def]? {
+        events.push(Event::Violation {
+            session,
+            statement: 4,
+            low: 4,
+            high: 5,
+            object,
+        })?;
+    }
+    events.push(Event::Rollback {
+        session,
+        statement: 5,
+    })
+}
+
+/// The events of a vacuum of two slices by session 1, of one of the background, and of a refreshed cluster.
+fn push_vacuums(events: &mut List<Event>, alloc: Global) -> Result<(), AllocError> {
+    for (session, statement, table) in [(1, 3, "t"), (0, 0, "a\\b")] {
+        events.push(Event::VacuumBegin {
+            session,
+            statement,
+            table: Text::from_str(alloc, table)?,
+        })?;
+        for slice in 0..2u32 {
+            events.push(Event::VacuumSlice {
+                session,
+                statement,
+                slice,
+                horizon: 2,
+            })?;
+        }
+        events.push(Event::VacuumEnd { session, statement })?;
+    }
+    events.push(Event::Refresh {
+        cluster: 1,
+        stamp: 2,
+    })
+}
+
+#[test]
+fn events_of_sessions_have_their_lines(rt: HostRuntime) -> Result<(), Fail> {
+    let alloc = rt.alloc();
+    let mut events = List::new(alloc);
+    push_block(&mut events, alloc)?;
+    push_vacuums(&mut events, alloc)?;
+    let shape = Shape::standard(64);
+    let journal = Journal { shape, events };
+    let database = Database::new(alloc);
+    let expected = "warehouse nodes 2 slices 2 clusters 1 slots 5 sessions 64\n\
+        1 begin 2 1\n\
+        2 pass 2 2 BEGIN\n\
+        3 pass 2 2 COMMIT\n\
+        4 pass 2 2 ROLLBACK\n\
+        5 wait 2 3 for 1 3\n\
+        6 wait 2 3 for 64\n\
+        7 open 2 3 snapshot 4 cluster 1\n\
+        8 violation 2 4 low 4 high 5 rows(y)\n\
+        9 violation 2 4 low 4 high 5 def(a\\|b)\n\
+        10 rollback 2 5\n\
+        11 vacuum 1 3 begin t\n\
+        12 vacuum 1 3 slice 0 horizon 2\n\
+        13 vacuum 1 3 slice 1 horizon 2\n\
+        14 vacuum 1 3 end\n\
+        15 vacuum 0 0 begin a\\\\b\n\
+        16 vacuum 0 0 slice 0 horizon 2\n\
+        17 vacuum 0 0 slice 1 horizon 2\n\
+        18 vacuum 0 0 end\n\
+        19 refresh 1 stamp 2\n\
+        tables 0\nserial\n";
+    let report = report_text(alloc, &journal, &database, &List::new(alloc))?;
+    assert_eq!(rt; report.as_slice(), expected.as_bytes());
+
+    let each = vec![in alloc;
+        Refusal::Deadlock {
+            cycle: List::from_vec(vec![in alloc; 2, 3, 1]?)
+        },
+        Refusal::Aborted,
+        Refusal::InBlock,
+        Refusal::Vacuuming { session: 3 },
+        Refusal::Limit { count: 16_777_217 },
+    ]?;
+    let journal = refusing(alloc, each)?;
+    let expected = "warehouse nodes 2 slices 2 clusters 1 slots 5 sessions 1\n\
+        1 refuse 1 7 10 deadlock 2 3 1\n\
+        2 refuse 1 8 11 aborted\n\
+        3 refuse 1 9 12 block\n\
+        4 refuse 1 10 13 vacuum 3\n\
+        5 refuse 1 11 14 limit rows 16777217\n\
+        6 end 1\ntables 0\nserial\n";
+    let report = report_text(alloc, &journal, &database, &List::new(alloc))?;
+    assert_eq!(rt; report.as_slice(), expected.as_bytes());
     Ok(())
 }
