@@ -2,7 +2,7 @@
 //!
 //! A contract sees a `Text` as the list of its bytes and a `List<T>` as the list of its items, so `≡` between two of
 //! them says that they hold the same. `Value` and `Row` are plain data; their order, what a column takes and how a value is
-//! shown stand in specs/Values.antt, sorted lists in specs/Sorted.antt. The order is total and tells any two different rows
+//! shown stand in specs/Values.antt, sorted lists in specs/Sorted.antt, the calendar in specs/Dates.antt. The order is total and tells any two different rows
 //! apart, so a sorted list is the one name of the bag of its rows.
 #![tactic(auto)]
 
