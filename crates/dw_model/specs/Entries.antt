@@ -3,6 +3,7 @@ use Rattle.std.specs.Prelude.{ℕ, suc, Bool, false, List, [], ◌∷◌, map, O
 use Rattle.std.specs.Ordering.{nat_cmp, is_lt}
 use Rattle.std.specs.Cmp.Lexicographic.{slice_cmp}
 use Rattle.std.specs.FinMap.Entries.{is_sorted}
+use Rattle.std.specs.Arc.{arc_value}
 use Rattle.dw_model.specs.declared.tables.Table.{Table}
 use Rattle.dw_model.specs.declared.databases.Entry.{Entry}
 use Rattle.dw_model.specs.Databases.{IsAscending}
@@ -10,7 +11,7 @@ use Rattle.dw_model.specs.Binding.{same_name}
 
 -- a name with its table
 abbrev pub pair_of : Entry → List ℕ × Table
-pair_of entry = (entry.name, entry.table)
+pair_of entry = (entry.name, arc_value entry.table)
 
 abbrev pub pairs_of : List Entry → List (List ℕ × Table)
 pairs_of entries = map pair_of entries
@@ -22,7 +23,7 @@ names_rise entries = is_sorted (slice_cmp nat_cmp) (pairs_of entries)
 -- the rows of each of these tables stand in ascending order
 abbrev pub RowsAscend : List Entry → Type 0
 RowsAscend [] = Unit {0}
-RowsAscend (entry ∷ entries) = IsAscending entry.table.rows × RowsAscend entries
+RowsAscend (entry ∷ entries) = IsAscending (arc_value entry.table).rows × RowsAscend entries
 
 -- how many entries at the front have a name below this one
 abbrev pub place_in : List Entry → List ℕ → ℕ

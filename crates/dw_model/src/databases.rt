@@ -2,31 +2,32 @@ ghost use Rattle.std.specs.Prelude.{◌≡◌, ◌<◌, ◌≤◌, ◌↔◌, le
 ghost use Rattle.std.specs.Option.{option_copied};
 ghost use Rattle.std.specs.FinMap as map;
 ghost use Rattle.dw_model.specs.Databases.{IsAscending};
-ghost use Rattle.dw_model.specs.Entries.{names_rise, named_at, pairs_of, place_in, RowsAscend};
+ghost use Rattle.dw_model.specs.Entries.{names_rise, named_at, pair_of, pairs_of, place_in, RowsAscend};
 
 use crate::tables::Table;
 use dw_value::Text;
 use std::alloc::{AllocError, Global};
 use std::marker::Model;
+use std::sync::Arc;
 
-/// A table under its name.
+/// A table under its name. The databases that have the table share it.
 #[derive(Debug, Drop)]
 pub struct Entry {
     /// The table's name, folded to lower case.
     pub name: Text,
-    /// The table.
-    pub table: Table,
+    /// The table, which is never changed in place.
+    pub table: Arc<Table>,
 }
 
 impl Entry {
-    /// An equal entry.
+    /// An entry of the same name that shares the table.
     pub fn copy(&self) -> Result<Entry, AllocError>
-        ensures { IfOk result (λ copy. copy ≡ self.now) }
+        ensures { IfOk result (λ copy. pair_of copy ≡ pair_of self.now) }
     {
         let name = self.name.copy()?;
         Ok(Entry {
             name,
-            table: self.table.copy()?,
+            table: Arc::try_clone(&self.table)?,
         })
     }
 }
@@ -94,7 +95,7 @@ impl Database {
     {
         let place = place_of(self.entries.as_slice(), name);
         if is_named(self.entries.as_slice(), place, name) {
-            Some(&self.entries[place].table)
+            Some(&*self.entries[place].table)
         } else {
             None
         }
@@ -106,6 +107,7 @@ impl Database {
         ensures ok { OnOk result (self.new ≡ map.insert self.old name table) }
         ensures err { OnErr result (self.new ≡ self.old) }
     {
+        let table = Arc::new(*self.entries.allocator(), table)?;
         let place = place_of(self.entries.as_slice(), &name);
         if is_named(self.entries.as_slice(), place, &name) {
             self.entries[place] = Entry { name, table };
@@ -115,7 +117,18 @@ impl Database {
         Ok(())
     }
 
-    /// An equal database.
+    /// Takes the table of this name away, if there is one. The others stay. It takes no memory.
+    pub fn remove(&mut self, name: &Text)
+        ensures { self.new ≡ map.remove self.old name.now }
+    {
+        let place = place_of(self.entries.as_slice(), name);
+        if is_named(self.entries.as_slice(), place, name) {
+            self.entries.remove(place);
+        }
+    }
+
+    /// An equal database, which shares the tables with this one. So it costs time in proportion to the number of tables,
+    /// not of their rows.
     pub fn copy(&self) -> Result<Database, AllocError>
         ensures { IfOk result (λ copy. copy ≡ self.now) }
     {
@@ -175,7 +188,7 @@ mod tests {
             };
             database.put(Text::from_str(alloc, name)?, table)?;
         }
-        let database = database.copy()?;
+        let mut database = database.copy()?;
         assert_eq!(rt; database.len(), 3);
         assert!(rt; !database.is_empty());
         for (place, name) in ["a", "b", "c"].iter().enumerate() {
@@ -187,6 +200,14 @@ mod tests {
         let column = found.def.columns.get(0).ok_or("a column")?;
         assert_eq!(rt; column.name.as_str(), "z");
         assert!(rt; database.get(&Text::from_str(alloc, "bb")?).is_none());
+        database.remove(&Text::from_str(alloc, "bb")?);
+        assert_eq!(rt; database.len(), 3);
+        database.remove(&b);
+        assert!(rt; database.get(&b).is_none());
+        for (place, name) in ["a", "c"].iter().enumerate() {
+            let entry = database.as_slice().get(place).ok_or("no entry")?;
+            assert_eq!(rt; entry.name.as_str(), *name);
+        }
         match Object::Rows(b).copy()? {
             Object::Rows(name) => assert_eq!(rt; name.as_str(), "b"),
             Object::Def(_) => assert!(rt; false, "a copy has the same form"),

@@ -88,7 +88,8 @@ fn insert_refusal(
     }
 }
 
-fn rows_go_with(columns: &[Column], rows: &[Row]) -> bool
+// Whether all rows have a value for each of these columns, each of the class that the column takes.
+pub(crate) fn rows_go_with(columns: &[Column], rows: &[Row]) -> bool
     ensures { result ≡ rows_go_with columns.now rows.now }
 {
     rows.iter().all(|row| row_goes_with(columns, row))

@@ -1,14 +1,58 @@
 //! INSERT of rows of literals.
 ghost use Rattle.std.specs.Prelude.{◌≡◌, IfOk, IsTrue};
 ghost use Rattle.std.specs.FinMap as map;
-ghost use Rattle.dw_model.specs.Alone.{admitted_rows, insert_done, table_with};
+ghost use Rattle.dw_model.specs.Alone.{admitted_rows, insert_done, inserted, inserted_in, table_with};
 ghost use Rattle.dw_model.specs.Binding.{rows_go_with, row_goes_with};
 ghost use Rattle.dw_model.specs.Databases.{IsAscending};
 ghost use Rattle.dw_plain.specs.Admission.{admitted_row, rows_fit};
 
-use dw_model::{Answer, Column, Database, Plain, Refusal, Table, Word};
+use crate::bind::rows_go_with;
+use dw_model::{Answer, Column, Database, Plain, Refusal, Statement, Table, Word};
 use dw_value::{List, Row, Text, add_rows, admit};
 use std::alloc::{AllocError, Global};
+
+/// The rows that a statement adds to the table that it writes, as the table holds them, in the order in which the statement
+/// gives them. Every statement but INSERT adds none; and INSERT adds none where there is no such table, or where one of its
+/// rows doesn't fit: it has another width, or a value that its column doesn't take. The database stays as it is.
+pub fn inserted_rows(
+    alloc: Global,
+    statement: &Statement,
+    database: &Database,
+) -> Result<List<Row>, AllocError>
+    ensures { IfOk result (λ rows. rows ≡ inserted statement.now database.now) }
+{
+    match statement {
+        Statement::Insert { table, rows } => taken_rows(alloc, table, rows, database),
+        Statement::Begin
+        | Statement::Commit
+        | Statement::Rollback
+        | Statement::Vacuum { .. }
+        | Statement::Create { .. }
+        | Statement::Select { .. } => Ok(List::new(alloc)),
+    }
+}
+
+// The rows as the table of this name holds them, and none where it doesn't take them.
+fn taken_rows(
+    alloc: Global,
+    name: &Text,
+    rows: &List<Row>,
+    database: &Database,
+) -> Result<List<Row>, AllocError>
+    ensures { IfOk result (λ taken. taken ≡ inserted_in rows.now (map.get database.now name.now)) }
+{
+    let Some(table) = database.get(name) else {
+        return Ok(List::new(alloc));
+    };
+    let columns = table.def.columns.as_slice();
+    if !rows_go_with(columns, rows.as_slice()) {
+        return Ok(List::new(alloc));
+    }
+    match admit_rows(alloc, columns, rows.as_slice())? {
+        Some(admitted) => Ok(admitted),
+        None => Ok(List::new(alloc)),
+    }
+}
 
 /// What INSERT gives, once its names and kinds are known to fit: the database with the rows among those of the table, or
 /// a refusal where a value doesn't fit. The rows are sorted once, in time in proportion to n log n for n rows in all.

@@ -11,11 +11,12 @@ mod select;
 
 pub use bind::bound_refusal;
 pub use columns::{column_at, column_place, row_goes_with};
+pub use insert::inserted_rows;
 pub use run::plain_run;
 
 #[cfg(test)]
 mod tests {
-    use super::plain_run;
+    use super::{inserted_rows, plain_run};
     use dw_model::{
         Answer, ColumnSpec, Database, Plain, Query, Refusal, Statement, TableSpec, Test,
     };
@@ -233,6 +234,51 @@ select u y => unknown u";
                     "{line}"
                 );
             }
+        }
+        Ok(())
+    }
+
+    // The rows that each statement adds to `t`, whose columns are an INTEGER and a VARCHAR of 3 bytes.
+    const ADDED: &str = "insert t 2 'b , 1 null => | 2 b | 1 \\N
+insert t 2 'b , 2 'b => | 2 b | 2 b
+insert t 2 'b , 2147483648 'b =>
+insert t 2 'b , 'a 'b =>
+insert t 2 'b , 1 =>
+insert u 1 'b =>
+create u x:0 =>
+select t x =>";
+
+    // The values of each row behind a bar.
+    fn added_text(alloc: Global, rows: &[Row]) -> Result<String, AllocError> {
+        let mut text = String::new(alloc);
+        for row in rows {
+            text.push_str(" |")?;
+            for value in row.values.as_slice() {
+                let shown = match value {
+                    Value::Number(number) => format!(in alloc; " {number}")?,
+                    Value::Words(words) => format!(in alloc; " {}", words.as_str())?,
+                    _ => String::from_str(alloc, " \\N")?,
+                };
+                text.push_str(shown.as_str())?;
+            }
+        }
+        Ok(text)
+    }
+
+    #[test]
+    fn rows_are_added(rt: HostRuntime) -> Result<(), Fail> {
+        let alloc = rt.alloc();
+        let mut database = Database::new(alloc);
+        told(alloc, "create t x:0 s:3", &mut database)?;
+        for line in ADDED.lines() {
+            let (text, wanted) = line.split_once(" =>").ok_or("a row has two parts")?;
+            let statement = statement(alloc, text)?;
+            let rows = inserted_rows(alloc, &statement, &database)?;
+            assert_eq!(rt;
+                added_text(alloc, rows.as_slice())?.as_str(),
+                wanted,
+                "{line}"
+            );
         }
         Ok(())
     }
