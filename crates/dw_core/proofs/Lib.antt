@@ -1,2 +1,11 @@
-pub mod Ready
-pub mod Finish
+pub mod States
+pub mod Due
+pub mod Steps
+pub mod Stand
+pub mod Took
+pub mod Moves
+pub mod Kept
+pub mod Granted
+pub mod Fresh
+pub mod Committing
+pub mod Driver

@@ -1,2 +1,5 @@
-pub mod Run
-pub mod Session
+pub mod Machine
+pub mod Readers
+pub mod Changes
+pub mod Decisions
+pub mod Agree

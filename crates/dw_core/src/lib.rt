@@ -1,12 +1,15 @@
-//! A script driven to its end by one session, on plain tables: each statement is a transaction of its own, which is
-//! certified as it commits.
+//! The machine that many sessions run on: it holds their scripts, the certifier and the journal in the making. Each call
+//! appends the one event that it names, or none.
 #![tactic(auto)]
 
+mod cores;
+mod decisions;
 mod objects;
-mod run;
-mod session;
+mod sessions;
 
-pub use run::{Ran, run_script};
+pub use cores::{Core, Next};
+pub use decisions::Committed;
+pub use sessions::Block;
 
 #[cfg(test)]
 mod tests;

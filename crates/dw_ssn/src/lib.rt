@@ -1,8 +1,9 @@
 //! The certifier: the low and the high watermark of a transaction, after the Serial Safety Net paper of Wang, Johnson,
-//! Fekete and Pandis. It keeps every commit.
+//! Fekete and Pandis, and the object that a violation of them names. It keeps every commit.
 #![tactic(auto)]
 
 mod certifier;
 mod objects;
+mod violations;
 
 pub use certifier::{Certifier, Marks, Taken};

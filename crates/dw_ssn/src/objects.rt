@@ -1,7 +1,7 @@
-//! Sets of objects, as lists.
+//! Sets of objects, as lists, and the order of objects.
 ghost use Rattle.std.specs.Prelude.{◌≡◌};
 ghost use Rattle.dw_model.specs.Objects.{same_object, is_among};
-ghost use Rattle.dw_journal.specs.Watermarks.{overlaps};
+ghost use Rattle.dw_journal.specs.Watermarks.{object_before, overlaps};
 
 use dw_model::Object;
 
@@ -12,6 +12,18 @@ pub(crate) fn is_same(a: &Object, b: &Object) -> bool
     match (a, b) {
         (Object::Def(a), Object::Def(b)) | (Object::Rows(a), Object::Rows(b)) => a == b,
         (Object::Def(_), Object::Rows(_)) | (Object::Rows(_), Object::Def(_)) => false,
+    }
+}
+
+/// Whether an object comes before another: by the table's name, and the definition before the rows.
+pub(crate) fn is_before(a: &Object, b: &Object) -> bool
+    ensures { result ≡ object_before a.now b.now }
+{
+    match (a, b) {
+        (Object::Def(a), Object::Rows(b)) => a.as_bytes().cmp(b.as_bytes()).is_lt() || a == b,
+        (Object::Def(a), Object::Def(b))
+        | (Object::Rows(a), Object::Def(b))
+        | (Object::Rows(a), Object::Rows(b)) => { a.as_bytes().cmp(b.as_bytes()).is_lt() }
     }
 }
 

@@ -1,3 +1,8 @@
 pub mod Refusals
+pub mod Reading
+pub mod NoVacuum
+pub mod Short
+pub mod Causes
+pub mod Scripts
+pub mod Reported
 pub mod Scripted
-pub mod Works

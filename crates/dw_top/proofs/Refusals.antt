@@ -4,8 +4,7 @@ use Rattle.std.specs.Prelude.{Option, Some, None, Result, IsSomeAnd}
 use Rattle.std.specs.Prelude.{Err as Refused}
 use Rattle.dw_script.specs.declared.status.Status.{Status}
 use Rattle.dw_script.specs.declared.status.Status.TheVariants.{ReadFault, Memory, TooLong}
-use Rattle.dw_top.specs.declared.files.TheConstants.{MAX_FILE}
-use Rattle.dw_top.specs.Due.{bytes_under, IsOrMemory, MayRefuse}
+use Rattle.dw_top.specs.Due.{bytes_within, IsOrMemory, MayRefuse}
 
 -- what is wrong with a file may be said, or want of memory
 MayRefuse-meant : (file : Result (List ℕ) Status) (meant status : Status) → file ≡ Refused meant
@@ -15,9 +14,9 @@ MayRefuse-meant file meant ReadFault is said = tt
 MayRefuse-meant file meant status is said = is ∙ ap Refused (sym said)
 
 -- so a file past the limit may be refused as too long
-pub MayRefuse-too_long : (name : List ℕ) (held : Option (List ℕ)) (status : Status)
-    → IsSomeAnd held (λ bytes. MAX_FILE < length bytes) → IsOrMemory (TooLong name) status → MayRefuse (bytes_under name held) status
-MayRefuse-too_long name None status long said = absurd long
-MayRefuse-too_long name (Some bytes) status long said =
-    let past : nat_lt MAX_FILE (length bytes) ≡ true = search (rules, tests) in
-    MayRefuse-meant (bytes_under name (Some bytes)) (TooLong name) status (rw past refl) said
+pub MayRefuse-too_long : (room : ℕ) (name : List ℕ) (held : Option (List ℕ)) (status : Status)
+    → IsSomeAnd held (λ bytes. room < length bytes) → IsOrMemory (TooLong name) status → MayRefuse (bytes_within room name held) status
+MayRefuse-too_long room name None status long said = absurd long
+MayRefuse-too_long room name (Some bytes) status long said =
+    let past : nat_lt room (length bytes) ≡ true = search (rules, tests) in
+    MayRefuse-meant (bytes_within room name (Some bytes)) (TooLong name) status (rw past refl) said

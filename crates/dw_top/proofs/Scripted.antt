@@ -1,27 +1,59 @@
--- The script of a run is what stands in the script's file.
-use Rattle.std.proofs.Common.{◌≡◌, ℕ, Bool, true, false, List, [], ◌∷◌, length, map, ap, nat_lt, refl}
-use Rattle.std.specs.Prelude.{Option, Some, None, unwrap_or, if◌then◌else◌}
+-- The scripts and the moves of a run are what stands in the files.
+use Rattle.std.proofs.Common.{◌≡◌, ℕ, ◌+◌, Bool, true, false, List, [], ◌∷◌, length, map, ap, nat_lt, refl, sym, subst, ◌∙◌}
+use Rattle.std.specs.Prelude.{Option, Some, None, Result, unwrap_or, if◌then◌else◌, IfOk}
 use Rattle.std.specs.Prelude.{Ok as Had, Err as Refused}
 use Rattle.dw_io.specs.Outside.{Held}
-use Rattle.dw_journal.specs.declared.Given.{Given}
+use Rattle.dw_journal.specs.declared.Journal.{Journal}
+use Rattle.dw_journal.specs.History.{Scripts}
+use Rattle.dw_journal.specs.Driven.{Move}
 use Rattle.dw_script.specs.declared.status.Status.{Status}
-use Rattle.dw_script.specs.Statements.{statements}
-use Rattle.dw_top.specs.declared.files.TheConstants.{MAX_FILE}
-use Rattle.dw_top.specs.Due.{bytes_under, file_of}
-use Rattle.dw_top.specs.Run.{given_of, scripts_of}
+use Rattle.dw_print.specs.Report.{report}
+use Rattle.dw_top.specs.Due.{bytes_within, room_behind, file_of, files_of, with_file, with_bytes}
+use Rattle.dw_top.specs.Run.{IsRun, givens_of, bytes_under, scripts_under}
 
 -- what is had where it isn't refused
-had-by : (refuse : Bool) (status : Status) (there bytes : List ℕ)
+had_by : (refuse : Bool) (status : Status) (there bytes : List ℕ)
     → (if refuse then Refused status else Had there) ≡ Had bytes → there ≡ bytes
-had-by true status there bytes had = cc
-had-by false status there bytes had = cc
+had_by true status there bytes had = cc
+had_by false status there bytes had = cc
 
 -- bytes are had only of a file that is there
-there-from-had : (name : List ℕ) (held : Option (List ℕ)) (bytes : List ℕ) → bytes_under name held ≡ Had bytes → held ≡ Some bytes
-there-from-had name None bytes had = cc
-there-from-had name (Some there) bytes had = ap Some (had-by (nat_lt MAX_FILE (length there)) _ there bytes had)
+there_by : (room : ℕ) (name : List ℕ) (held : Option (List ℕ)) (bytes : List ℕ) → bytes_within room name held ≡ Had bytes → unwrap_or held [] ≡ bytes
+there_by room name None bytes had = cc
+there_by room name (Some there) bytes had = had_by (nat_lt room (length there)) _ there bytes had
 
--- so the statements of the bytes that were had are those of the script that is held
-pub scripts-from-had : (held : Held) (name bytes : List ℕ) (givens : List Given) → file_of held name ≡ Had bytes
-    → givens ≡ map given_of (statements bytes) → givens ∷ [] ≡ scripts_of (unwrap_or (held name) [])
-scripts-from-had held name bytes givens had are = rw (there-from-had name (held name) bytes had, are) refl
+pub bytes_there : (held : Held) (before : ℕ) (name bytes : List ℕ) → file_of held before name ≡ Had bytes → bytes_under held name ≡ bytes
+bytes_there held before name bytes had = there_by (room_behind before) name (held name) bytes had
+
+behind_had : (bytes : List ℕ) (behind : Result (List (List ℕ)) Status) (files : List (List ℕ)) → with_bytes bytes behind ≡ Had files
+    → (more : List (List ℕ)) × (behind ≡ Had more) × (bytes ∷ more ≡ files)
+behind_had bytes (Refused status) files had = cc
+behind_had bytes (Had more) files had = (more, refl, (cc))
+
+first_had : (file : Result (List ℕ) Status) (behind : List ℕ → Result (List (List ℕ)) Status) (files : List (List ℕ)) → with_file file behind ≡ Had files
+    → (bytes : List ℕ) × (more : List (List ℕ)) × (file ≡ Had bytes) × (behind bytes ≡ Had more) × (bytes ∷ more ≡ files)
+first_had (Refused status) behind files had = cc
+first_had (Had bytes) behind files had =
+    let rest = behind_had bytes (behind bytes) files had in
+    (bytes, rest.0, refl, rest.1, rest.2)
+
+-- so the statements of the bytes that were had are those of the scripts that are held
+pub scripts_had : (held : Held) (before : ℕ) (names files : List (List ℕ)) → files_of held before names ≡ Had files
+    → map givens_of files ≡ scripts_under names held
+scripts_had held before [] files had = let none : files ≡ [] = cc in ap (map givens_of) none
+scripts_had held before (name ∷ names) files had =
+    let first = first_had (file_of held before name) (λ bytes. files_of held (before + length bytes) names) files had in
+    ap (map givens_of) (sym first.4)
+    ∙ ap (λ bytes. givens_of bytes ∷ map givens_of first.1) (sym (bytes_there held before name first.0 first.2))
+    ∙ ap (λ scripts. givens_of (bytes_under held name) ∷ scripts) (scripts_had held (before + length first.0) names first.1 first.3)
+
+-- a run of the same scripts under the same moves
+pub run_same : {E : Type 0} (result : Result (List ℕ) E) (scripts same : Scripts) (moves alike : List Move) → scripts ≡ same → moves ≡ alike
+    → IfOk result (λ bytes. (journal : Journal) × IsRun scripts moves journal × (bytes ≡ report scripts journal))
+    → IfOk result (λ bytes. (journal : Journal) × IsRun same alike journal × (bytes ≡ report same journal))
+run_same (Refused error) scripts same moves alike are go run = tt
+run_same (Had bytes) scripts same moves alike are go run = (
+  run.0,
+  subst (λ (moves : List Move). IsRun same moves run.0) go (subst (λ (scripts : Scripts). IsRun scripts moves run.0) are run.1),
+  subst (λ (scripts : Scripts). bytes ≡ report scripts run.0) are run.2,
+)

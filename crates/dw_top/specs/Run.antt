@@ -1,26 +1,32 @@
--- The scripts of a run: what the grammar makes of the statements in the files that the words name.
-use Rattle.std.specs.Prelude.{ℕ, List, [], ◌∷◌, map, Option, Some, None, Result, unwrap_or}
+-- The run that a report tells of: its scripts, which are what the grammar makes of the statements in the files that the
+-- words name, the moves of its schedule, and its journal.
+use Rattle.std.specs.Prelude.{◌≡◌, ℕ, List, [], length, map, Option, Some, None, Result, unwrap_or}
 use Rattle.std.specs.Prelude.{Ok as Had, Err as Foreign}
+use Rattle.std.specs.Result.{result_unwrap_or}
 use Rattle.dw_io.specs.Outside.{Held}
 use Rattle.dw_script.specs.Statements.{statements}
+use Rattle.dw_script.specs.Schedule.{read_schedule}
 use Rattle.dw_lex.specs.declared.token.Token.{Token}
 use Rattle.dw_lex.specs.Reading.{read_tokens}
 use Rattle.dw_parse.specs.Reading.{read_statement}
 use Rattle.dw_model.specs.declared.refusals.Refusal.TheVariants.{Syntax}
 use Rattle.dw_model.specs.declared.statements.Statement.{Statement}
-use Rattle.dw_model.specs.declared.statements.Statement.TheVariants as forms
+use Rattle.dw_model.specs.declared.statements.Statement.TheVariants.{Vacuum}
 use Rattle.dw_journal.specs.declared.Given.{Given}
 use Rattle.dw_journal.specs.declared.Given.TheVariants.{Read, Refused}
+use Rattle.dw_journal.specs.declared.Journal.{Journal}
 use Rattle.dw_journal.specs.History.{Scripts}
+use Rattle.dw_journal.specs.Follows.{Follows}
+use Rattle.dw_journal.specs.Legal.{IsLegal}
+use Rattle.dw_journal.specs.Serial.{IsSerial}
+use Rattle.dw_journal.specs.Driven.{Move, IsDriven}
+use Rattle.dw_engine.specs.Run.{standard_shape, moves_of}
 use Rattle.dw_top.specs.Words.{names_of}
 
--- A statement that is run on what the session sees is read. Those that begin and end blocks, and VACUUM, are refused at
--- their first byte, as outside the grammar, until sessions can do them.
+-- A statement that a session can do is read. VACUUM is refused at its first byte, as outside the grammar, until sessions
+-- can sweep.
 abbrev pub given_of_form : Statement → Given
-given_of_form forms.Begin = Refused (Syntax 0)
-given_of_form forms.Commit = Refused (Syntax 0)
-given_of_form forms.Rollback = Refused (Syntax 0)
-given_of_form (forms.Vacuum table) = Refused (Syntax 0)
+given_of_form (Vacuum table) = Refused (Syntax 0)
 given_of_form statement = Read statement
 
 -- the statement that the grammar derives, or the refusal at the statement's first byte where it derives none
@@ -37,15 +43,44 @@ given_of_tokens (Foreign place) = Refused (Syntax place)
 abbrev pub given_of : List ℕ → Given
 given_of statement = given_of_tokens (read_tokens statement)
 
--- the scripts of a run: one session, whose script holds these bytes
-abbrev pub scripts_of : List ℕ → Scripts
-scripts_of bytes = map given_of (statements bytes) ∷ []
+-- what the grammar makes of a script's bytes
+abbrev pub givens_of : List ℕ → List Given
+givens_of bytes = map given_of (statements bytes)
 
--- the bytes of the script that these names name
-abbrev pub script_under : Option (List ℕ × List ℕ) → Held → List ℕ
-script_under None held = []
-script_under (Some names) held = unwrap_or (held names.1) []
+-- the bytes that are held under a name
+abbrev pub bytes_under : Held → List ℕ → List ℕ
+bytes_under held name = unwrap_or (held name) []
+
+-- the scripts that these names name, one for each session
+abbrev pub scripts_under : List (List ℕ) → Held → Scripts
+scripts_under names held = map (λ name. givens_of (bytes_under held name)) names
+
+-- the moves that a schedule for so many sessions says; none where it is bad
+abbrev pub moves_read : ℕ → List ℕ → List Move
+moves_read sessions bytes = moves_of (result_unwrap_or (read_schedule sessions bytes) [])
+
+-- the scripts of a run
+abbrev pub scripts_of : Option (List ℕ × List (List ℕ)) → Held → Scripts
+scripts_of None held = []
+scripts_of (Some names) held = scripts_under names.1 held
 
 -- the scripts that the words name among these files
 abbrev pub scripts_in : List (List ℕ) → Held → Scripts
-scripts_in words held = scripts_of (script_under (names_of words) held)
+scripts_in words held = scripts_of (names_of words) held
+
+-- the moves of a run
+abbrev pub moves_under : Option (List ℕ × List (List ℕ)) → Held → List Move
+moves_under None held = []
+moves_under (Some names) held = moves_read (length names.1) (bytes_under held names.0)
+
+-- the moves of the schedule that the words name among these files
+abbrev pub moves_in : List (List ℕ) → Held → List Move
+moves_in words held = moves_under (names_of words) held
+
+-- a journal of a run of these scripts under this schedule's moves, with a session for each script
+pub record IsRun (scripts : Scripts) (moves : List Move) (journal : Journal) : Type 0 where
+  pub shape : journal.shape ≡ standard_shape (length scripts)
+  pub driven : IsDriven scripts moves journal
+  pub legal : IsLegal scripts journal
+  pub follows : Follows scripts journal
+  pub serial : IsSerial scripts journal

@@ -1,6 +1,7 @@
--- The words of the command line: a schedule's name and a script's name. The form is this project's own.
-use Rattle.std.specs.Prelude.{ℕ, Bool, not, ◌&&◌, ◌||◌, nat_lt, nat_eq, codes, List, [], ◌∷◌, length, Option, Some, None, if◌then◌else◌, is_some}
-use Rattle.std.specs.List.{starts_with}
+-- The words of the command line: a schedule's name and 1 to 64 scripts' names. The form is this project's own.
+use Rattle.std.specs.Prelude.{ℕ, Bool, not, ◌&&◌, nat_lt, nat_le, nat_eq, codes, List, [], ◌∷◌, length, Option, Some, None, if◌then◌else◌, is_some}
+use Rattle.std.specs.List.{starts_with, list_all}
+use Rattle.dw_top.specs.declared.words.TheConstants.{MAX_SCRIPTS}
 
 -- a word that begins with `-` and is longer than that one byte is no name
 abbrev pub is_option : List ℕ → Bool
@@ -10,16 +11,20 @@ is_option word = starts_with nat_eq word (codes "-") && nat_lt 1 (length word)
 abbrev pub is_generator : List ℕ → Bool
 is_generator word = starts_with nat_eq word (codes "gen:")
 
--- whether two words name a schedule and a script
-abbrev pub are_names : List ℕ → List ℕ → Bool
-are_names schedule script = not (is_option schedule || is_option script || is_generator schedule)
+-- whether none of the words is an option
+abbrev pub are_names : List (List ℕ) → Bool
+are_names words = list_all (λ word. not (is_option word)) words
 
--- the names of the schedule and of the script, where the words have the form of the command
-abbrev pub names_of : List (List ℕ) → Option (List ℕ × List ℕ)
+-- whether so many scripts may be named
+abbrev pub is_count : ℕ → Bool
+is_count scripts = nat_le 1 scripts && nat_le scripts MAX_SCRIPTS
+
+-- the names of the schedule and of the scripts, where the words have the form of the command
+abbrev pub names_of : List (List ℕ) → Option (List ℕ × List (List ℕ))
 names_of [] = None
-names_of (schedule ∷ []) = None
-names_of (schedule ∷ script ∷ []) = if are_names schedule script then Some (schedule, script) else None
-names_of (schedule ∷ script ∷ third ∷ more) = None
+names_of (schedule ∷ scripts) =
+    if are_names (schedule ∷ scripts) && not (is_generator schedule) && is_count (length scripts)
+    then Some (schedule, scripts) else None
 
 -- whether the words have the form of the command
 abbrev pub have_form : List (List ℕ) → Bool

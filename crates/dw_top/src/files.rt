@@ -1,7 +1,7 @@
 //! The files that the command names.
-ghost use Rattle.std.specs.Prelude.{◌≡◌, ◌≤◌, IfOk, IfErr};
+ghost use Rattle.std.specs.Prelude.{◌≡◌, ◌+◌, ◌≤◌, length, IfOk, IfErr};
 ghost use Rattle.dw_io.specs.Outside.{Held, Rose};
-ghost use Rattle.dw_top.specs.Due.{file_of, MayRefuse, ComesBefore, IsOrMemory};
+ghost use Rattle.dw_top.specs.Due.{file_of, files_of, MayRefuse, ComesBefore, IsOrMemory};
 
 use dw_io::{Files, ReadStop};
 use dw_script::Status;
@@ -11,27 +11,64 @@ use std::alloc::Global;
 /// The most bytes that a schedule or a script may have: 16 MiB. The limit is this project's own.
 pub(crate) const MAX_FILE: usize = 16_777_216;
 
-/// The bytes of the file `name`. Where there is none of that name, or it is longer than 16 MiB, that is the error. A
-/// fault of the files is one too, and so is want of memory.
+/// The most bytes that all files of a call may have together: 1 GiB. The limit is this project's own.
+pub(crate) const MAX_FILES: usize = 1_073_741_824;
+
+/// The bytes of the file `name`, where `before` bytes were read before it. Where there is none of that name, or it is
+/// longer than 16 MiB or with those before it than 1 GiB, that is the error. A fault of the files is one too, and so is
+/// want of memory.
 pub(crate) fn read_file<F: Files>(
     alloc: Global,
     files: &mut F,
     name: &Text,
+    before: usize,
 ) -> Result<List<u8>, Status>
+    requires { before ≤ MAX_FILES }
     ensures keeps { F.held files.new ≡ F.held files.old }
     ensures count { F.faults files.old ≤ F.faults files.new }
     ensures fault { result ≡ Err Status.ReadFault → Rose (F.faults files.old) (F.faults files.new) }
     ensures early { IfErr result ComesBefore }
-    ensures had { (h : Held) → F.held files.old ≡ Some h → IfOk result (λ bytes. file_of h name.now ≡ Ok bytes) }
-    ensures refused { (h : Held) → F.held files.old ≡ Some h → IfErr result (MayRefuse (file_of h name.now)) }
+    ensures all { IfOk result (λ bytes. before + length bytes ≤ MAX_FILES) }
+    ensures had { (h : Held) → F.held files.old ≡ Some h → IfOk result (λ bytes. file_of h before name.now ≡ Ok bytes) }
+    ensures refused { (h : Held) → F.held files.old ≡ Some h → IfErr result (MayRefuse (file_of h before name.now)) }
 {
-    match dw_io::read_file(alloc, files, name.as_str(), MAX_FILE) {
+    let room = MAX_FILE.min(MAX_FILES - before);
+    match dw_io::read_file(alloc, files, name.as_str(), room) {
         Ok(Some(bytes)) => Ok(bytes),
         Ok(None) => Err(missing(name)),
         Err(ReadStop::Memory) => Err(Status::Memory),
         Err(ReadStop::Fault) => Err(Status::ReadFault),
         Err(ReadStop::TooLong) => Err(too_long(name)),
     }
+}
+
+/// The bytes of the files of these names, read one after another, where `before` bytes were read before them. The first
+/// that can't be had gives the error.
+pub(crate) fn read_files<F: Files>(
+    alloc: Global,
+    files: &mut F,
+    names: &[Text],
+    before: usize,
+) -> Result<List<List<u8>>, Status>
+    requires { before ≤ MAX_FILES }
+    ensures keeps { F.held files.new ≡ F.held files.old }
+    ensures count { F.faults files.old ≤ F.faults files.new }
+    ensures fault { result ≡ Err Status.ReadFault → Rose (F.faults files.old) (F.faults files.new) }
+    ensures early { IfErr result ComesBefore }
+    ensures each { IfOk result (λ had. length had ≡ length names.now) }
+    ensures had { (h : Held) → F.held files.old ≡ Some h → IfOk result (λ had. files_of h before names.now ≡ Ok had) }
+    ensures refused { (h : Held) → F.held files.old ≡ Some h → IfErr result (MayRefuse (files_of h before names.now)) }
+{
+    let mut had = List::new(alloc);
+    let mut total = before;
+    for name in names {
+        let bytes = read_file(alloc, files, name, total)?;
+        total += bytes.len();
+        if had.push(bytes).is_err() {
+            return Err(Status::Memory);
+        }
+    }
+    Ok(had)
 }
 
 /// The status that says that no file has this name, or that there was no memory to say so.

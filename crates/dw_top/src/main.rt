@@ -1,4 +1,5 @@
-//! The program `warehouse SCHEDULE SCRIPT`: a schedule and a script go in, and the report of the run comes out.
+//! The program `warehouse SCHEDULE SCRIPT...`: a schedule and 1 to 64 scripts go in, and the report of the run comes out, in
+//! which each script is driven by a session of its own.
 //!
 //! `top` is the whole program over any files and any sink. What stands here hands it the words of the command line, the
 //! machine's files and the standard output, and prints its status.
@@ -18,7 +19,7 @@ use std::process::ExitCode;
 use top::top;
 
 /// The form of the command.
-const USAGE: &str = "usage: warehouse SCHEDULE SCRIPT";
+const USAGE: &str = "usage: warehouse SCHEDULE SCRIPT...";
 
 fn main(rt: HostRuntime) -> ExitCode {
     let status = answer(rt);
@@ -62,3 +63,5 @@ fn words_given(rt: HostRuntime) -> Result<Vec<Text>, Status> {
 
 #[cfg(test)]
 mod tests;
+#[cfg(test)]
+mod worked;

@@ -1,9 +1,9 @@
-//! A script, from its bytes to its statements.
-ghost use Rattle.std.specs.Prelude.{◌≡◌, ◌≤◌, length, map, IfOk, IfErr};
-ghost use Rattle.dw_script.specs.Statements.{statements, script_cause};
-ghost use Rattle.dw_top.specs.Due.{MayReject};
-ghost use Rattle.dw_core.specs.Session.{AllWork};
-ghost use Rattle.dw_top.specs.Run.{given_of, given_of_form};
+//! Scripts, from their bytes to their statements.
+ghost use Rattle.std.specs.Prelude.{◌≡◌, ◌≤◌, None, length, map, zip, IfOk, IfErr};
+ghost use Rattle.dw_script.specs.Statements.{script_cause};
+ghost use Rattle.dw_engine.specs.Run.{AreShort, HaveNoVacuum};
+ghost use Rattle.dw_top.specs.Due.{refusal_of, bad_script, MayReject, ComesOfBytes};
+ghost use Rattle.dw_top.specs.Run.{given_of, given_of_form, givens_of};
 
 use dw_journal::Given;
 use dw_lex::{LexFault, tokens};
@@ -13,17 +13,18 @@ use dw_script::{MAX_STATEMENTS, Script, ScriptFault, Status, split};
 use dw_value::{List, Text};
 use std::alloc::{AllocError, Global};
 
-/// A statement that the grammar derives, as a script has it: read, or refused where only sessions of several statements
-/// could do it.
+/// A statement that the grammar derives, as a script has it: read, or refused where no session can do it yet.
 fn given_of_form(statement: Statement) -> Given
     ensures { result ≡ given_of_form statement }
 {
     match statement {
-        Statement::Begin | Statement::Commit | Statement::Rollback | Statement::Vacuum { .. } =>
-            Given::Refused(Refusal::Syntax { place: 0 }),
-        Statement::Create { .. } | Statement::Insert { .. } | Statement::Select { .. } => {
-            Given::Read(statement)
-        }
+        Statement::Vacuum { .. } => Given::Refused(Refusal::Syntax { place: 0 }),
+        Statement::Create { .. }
+        | Statement::Insert { .. }
+        | Statement::Select { .. }
+        | Statement::Begin
+        | Statement::Commit
+        | Statement::Rollback => Given::Read(statement),
     }
 }
 
@@ -55,12 +56,12 @@ fn given_statements(alloc: Global, script: &Script) -> Result<List<Given>, Alloc
 }
 
 /// What the grammar makes of each statement of the script `name`, or why these bytes are no script.
-pub(crate) fn read_script(alloc: Global, name: &Text, bytes: &[u8]) -> Result<List<Given>, Status>
+fn read_script(alloc: Global, name: &Text, bytes: &[u8]) -> Result<List<Given>, Status>
     ensures read { IfOk result (λ givens. script_cause bytes.now ≡ None) }
-    ensures givens { IfOk result (λ givens. givens ≡ map given_of (statements bytes.now)) }
+    ensures givens { IfOk result (λ givens. givens ≡ givens_of bytes.now) }
     ensures few { IfOk result (λ givens. length givens ≤ MAX_STATEMENTS) }
-    ensures works { IfOk result AllWork }
-    ensures rejected { IfErr result (MayReject name.now (script_cause bytes.now)) }
+    ensures rejected { IfErr result (MayReject (refusal_of (name.now, bytes.now))) }
+    ensures of_bytes { IfErr result ComesOfBytes }
 {
     let script = match split(alloc, bytes) {
         Ok(script) => script,
@@ -76,4 +77,28 @@ pub(crate) fn read_script(alloc: Global, name: &Text, bytes: &[u8]) -> Result<Li
         Ok(givens) => Ok(givens),
         Err(_) => Err(Status::Memory),
     }
+}
+
+/// What the grammar makes of each script, of which each is named, or why the first that is none isn't.
+pub(crate) fn read_scripts(
+    alloc: Global,
+    names: &[Text],
+    files: &[List<u8>],
+) -> Result<List<List<Given>>, Status>
+    requires { length names.now ≡ length files.now }
+    ensures read { IfOk result (λ scripts. bad_script (zip names.now files.now) ≡ None) }
+    ensures scripts { IfOk result (λ scripts. scripts ≡ map givens_of files.now) }
+    ensures short { IfOk result AreShort }
+    ensures no_vacuum { IfOk result HaveNoVacuum }
+    ensures rejected { IfErr result (MayReject (bad_script (zip names.now files.now))) }
+    ensures of_bytes { IfErr result ComesOfBytes }
+{
+    let mut scripts = List::new(alloc);
+    for (name, bytes) in names.iter().zip(files) {
+        let script = read_script(alloc, name, bytes.as_slice())?;
+        if scripts.push(script).is_err() {
+            return Err(Status::Memory);
+        }
+    }
+    Ok(scripts)
 }

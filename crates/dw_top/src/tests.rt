@@ -1,64 +1,39 @@
 use crate::top::top;
-use dw_io::{MemoryFiles, MemorySink, Sink, SinkFault};
+use dw_io::{MemoryFiles, MemorySink};
 use dw_value::{List, Text};
 use std::alloc::{AllocError, Global};
 use std::test::Fail;
 
-/// What an empty script gives.
-const EMPTY: &str = "warehouse nodes 2 slices 2 clusters 1 slots 5 sessions 1
-1 end 1
-tables 0
-serial
-";
+/// Named files.
+pub(crate) type Named = List<(Text, List<u8>)>;
 
-/// Two statements, with an empty one between them that is none.
-const TWO: &str = "warehouse nodes 2 slices 2 clusters 1 slots 5 sessions 1
-1 refuse 1 1 1 syntax 0
-2 refuse 1 2 1 syntax 0
-3 end 1
-tables 0
-serial
-";
-
-/// In each row: the words, what the files `schedule` and `-` hold, what `a.sql` and `gen:7` hold, and the status. The
-/// report is that of an empty script.
-const ROWS: &str = "schedule a.sql|||0
-- gen:7|||0
-schedule a.sql|| ;; ; |0
-|||2 usage
-schedule|||2 usage
-schedule a.sql a.sql|||2 usage
---x a.sql|||2 usage
-schedule --x|||2 usage
-gen:7 a.sql|||2 usage
-schedule a.sql|absent|absent|5 missing schedule
-schedule a.sql|absent|'|5 missing schedule
-schedule a.sql|x|absent|5 missing a.sql
-schedule a.sql||SELECT 'abc|6 bad script a.sql: open text at 7
-schedule a.sql|x|SELECT 'abc|6 bad script a.sql: open text at 7
-schedule a.sql|x|SELECT 1|7 bad schedule at line 1";
-
-/// A sink that takes 7 bytes at a time, and tells nothing of what it has.
-#[derive(Drop)]
-struct SlowSink {
-    inner: MemorySink,
-}
-
-impl Sink for SlowSink {
-    ghost use Rattle.std.specs.Prelude.{None};
-
-    ghost has = { λ _. None };
-
-    ghost faults = { λ sink. sink.inner.faults };
-
-    fn write(&mut self, piece: &[u8]) -> Result<usize, SinkFault> {
-        let few = piece.len().min(7);
-        self.inner.write(&piece[..few])
-    }
-}
+/// In each row: the words, what the files `schedule` and `-`, `a.sql` and `gen:7`, and `b.sql` hold, and the status. In a
+/// file `~` stands for an LF and `^` for a CR, and `absent` says that it isn't there.
+const ROWS: &str = "||||2 usage
+schedule||||2 usage
+--x a.sql||||2 usage
+schedule --x||||2 usage
+schedule a.sql --x||||2 usage
+gen:7 a.sql||||2 usage
+schedule a.sql|absent|absent||5 missing schedule
+schedule a.sql|absent|'||5 missing schedule
+schedule a.sql b.sql|x|absent|absent|5 missing a.sql
+schedule a.sql b.sql|x|'|absent|5 missing b.sql
+schedule a.sql||SELECT 'abc||6 bad script a.sql: open text at 7
+schedule a.sql b.sql|x|'|/*/|6 bad script a.sql: open text at 0
+schedule a.sql b.sql|x|/* /* */ ' */ --'|/*/|6 bad script b.sql: open comment at 0
+- gen:7|x|||7 bad schedule at line 1
+schedule a.sql|1 4|||7 bad schedule at line 1
+schedule a.sql|1*10001|||7 bad schedule at line 1
+schedule a.sql|1*10000~1*10001|||7 bad schedule at line 2
+schedule a.sql|01|||7 bad schedule at line 1
+schedule a.sql| 1|||7 bad schedule at line 1
+schedule a.sql b.sql|1 2~1  2|||7 bad schedule at line 2
+schedule a.sql a.sql|2 1~3|||7 bad schedule at line 2
+schedule a.sql|# 2^~^~~1^~1^|||7 bad schedule at line 5";
 
 /// The words of a line, which spaces part.
-fn words_of(alloc: Global, line: &str) -> Result<Vec<Text>, AllocError> {
+pub(crate) fn words_of(alloc: Global, line: &str) -> Result<Vec<Text>, AllocError> {
     let mut words = Vec::new(alloc);
     for word in line.split_whitespace() {
         words.push(Text::from_str(alloc, word)?)?;
@@ -66,76 +41,74 @@ fn words_of(alloc: Global, line: &str) -> Result<Vec<Text>, AllocError> {
     Ok(words)
 }
 
-/// Files of the names that the line lists, all with these bytes, unless these say `absent`.
-fn put_files(
+/// Puts a file among the others, unless its bytes say `absent`.
+pub(crate) fn put_file(
     alloc: Global,
-    files: &mut List<(Text, List<u8>)>,
-    names: &str,
+    files: &mut Named,
+    name: &str,
     bytes: &[u8],
 ) -> Result<(), AllocError> {
     if bytes == b"absent".as_slice() {
         return Ok(());
     }
-    for name in names.split_whitespace() {
-        let name = Text::from_str(alloc, name)?;
-        let bytes = List::from_vec(Vec::from_slice(alloc, bytes)?);
-        files.push((name, bytes))?;
-    }
-    Ok(())
+    let name = Text::from_str(alloc, name)?;
+    let bytes = List::from_vec(Vec::from_slice(alloc, bytes)?);
+    files.push((name, bytes))
 }
 
-/// The files of a row, in which the call of this number fails.
-fn files_of(
-    alloc: Global,
-    schedule: &[u8],
-    script: &[u8],
-    fails: u64,
-) -> Result<MemoryFiles, AllocError> {
-    let mut files = List::new(alloc);
-    put_files(alloc, &mut files, "schedule -", schedule)?;
-    put_files(alloc, &mut files, "a.sql gen:7", script)?;
-    let mut calls = List::new(alloc);
-    calls.push(fails)?;
-    Ok(MemoryFiles::new(files, calls))
-}
-
-/// The number and the line of the status, and whether just this was written.
-fn gives(
+/// The number and the line of the status of a call over these files, and what was written.
+pub(crate) fn call(
     alloc: Global,
     words: &str,
-    schedule: &[u8],
-    script: &[u8],
-    written: &str,
-) -> Result<(String, bool), AllocError> {
+    files: Named,
+) -> Result<(String, List<u8>), AllocError> {
     let words = words_of(alloc, words)?;
-    let mut files = files_of(alloc, schedule, script, 0)?;
+    let mut files = MemoryFiles::new(files, List::new(alloc));
     let mut out = MemorySink::new(alloc, List::new(alloc));
     let status = top(alloc, words.as_slice(), &mut files, &mut out);
     let number = status.number();
     let line = format!(in alloc; "{number} {status}")?;
-    Ok((line, out.as_slice() == written.as_bytes()))
+    let written = Vec::from_slice(alloc, out.as_slice())?;
+    Ok((line, List::from_vec(written)))
 }
 
-/// Whether the call gives what the row says.
+/// The files of the names with these bytes.
+fn files_of(alloc: Global, schedule: &[u8], a: &[u8], b: &[u8]) -> Result<Named, AllocError> {
+    let mut files = List::new(alloc);
+    put_file(alloc, &mut files, "schedule", schedule)?;
+    put_file(alloc, &mut files, "-", schedule)?;
+    put_file(alloc, &mut files, "a.sql", a)?;
+    put_file(alloc, &mut files, "gen:7", a)?;
+    put_file(alloc, &mut files, "b.sql", b)?;
+    Ok(files)
+}
+
+/// Whether the call over these files ends so, and writes nothing.
+fn ends_with(alloc: Global, words: &str, files: Named, status: &str) -> Result<bool, AllocError> {
+    let (line, written) = call(alloc, words, files)?;
+    Ok(line.as_str() == status && written.is_empty())
+}
+
+/// Whether the call ends as the row says.
 fn holds(alloc: Global, row: &str) -> Result<bool, AllocError> {
     let mut fields = row.split('|');
     let words = fields.next().unwrap_or("");
-    let schedule = fields.next().unwrap_or("");
-    let script = fields.next().unwrap_or("");
+    let schedule = fields.next().unwrap_or("").replace(alloc, "~", "\n")?;
+    let schedule = schedule.replace(alloc, "^", "\r")?;
+    let a = fields.next().unwrap_or("");
+    let b = fields.next().unwrap_or("");
     let status = fields.next().unwrap_or("");
-    let written = if status == "0" { EMPTY } else { "" };
-    let (line, same) = gives(
+    let files = files_of(
         alloc,
-        words,
-        schedule.as_bytes(),
-        script.as_bytes(),
-        written,
+        schedule.as_str().as_bytes(),
+        a.as_bytes(),
+        b.as_bytes(),
     )?;
-    Ok(same && line.as_str().trim() == status)
+    ends_with(alloc, words, files, status)
 }
 
 #[test]
-fn a_call_gives_what_its_row_says(rt: HostRuntime) -> Result<(), Fail> {
+fn a_call_ends_as_its_row_says(rt: HostRuntime) -> Result<(), Fail> {
     for row in ROWS.lines() {
         assert!(rt; holds(rt.alloc(), row)?, "{row}");
     }
@@ -143,64 +116,42 @@ fn a_call_gives_what_its_row_says(rt: HostRuntime) -> Result<(), Fail> {
 }
 
 #[test]
-fn statements_are_refused(rt: HostRuntime) -> Result<(), Fail> {
-    let (line, same) = gives(rt.alloc(), "- a.sql", b"", b"SELECT 1; ;x", TWO)?;
-    assert_eq!(rt; line.as_str(), "0 ");
-    assert!(rt; same);
-    let (line, same) = gives(rt.alloc(), "- a.sql", b"", b"a'b\xff", "")?;
-    assert_eq!(rt; line.as_str(), "6 bad script a.sql: not utf-8 at 3");
-    assert!(rt; same);
-    Ok(())
-}
-
-#[test]
-fn a_failing_read_is_a_fault(rt: HostRuntime) -> Result<(), Fail> {
-    let words = words_of(rt.alloc(), "schedule a.sql")?;
-    // A look and a read of the schedule, a look and two reads of the script, and no more.
-    for call in 1..7_u64 {
-        let mut files = files_of(rt.alloc(), b"", b"x", call)?;
-        let mut out = MemorySink::new(rt.alloc(), List::new(rt.alloc()));
-        let status = top(rt.alloc(), words.as_slice(), &mut files, &mut out);
-        assert_eq!(rt; status.number(), if call < 6 { 3 } else { 0 }, "at {call}");
-        assert_eq!(rt; out.as_slice().is_empty(), call < 6, "at {call}");
+fn scripts_are_1_to_64(rt: HostRuntime) -> Result<(), Fail> {
+    let mut words = String::from_str(rt.alloc(), "schedule")?;
+    for _ in 0..64 {
+        words.push_str(" a.sql")?;
     }
+    let files = files_of(rt.alloc(), b"64\n65", b"", b"")?;
+    assert!(rt;
+        ends_with(
+            rt.alloc(),
+            words.as_str(),
+            files,
+            "7 bad schedule at line 2"
+        )?
+    );
+    words.push_str(" a.sql")?;
+    let files = files_of(rt.alloc(), b"64\n65", b"", b"")?;
+    assert!(rt; ends_with(rt.alloc(), words.as_str(), files, "2 usage")?);
     Ok(())
 }
 
 #[test]
-fn a_failing_write_leaves_a_part(rt: HostRuntime) -> Result<(), Fail> {
-    let words = words_of(rt.alloc(), "schedule a.sql")?;
-    // The report has 81 bytes, so it takes 12 writes of at most 7.
-    for call in 1..14_u64 {
-        let mut files = files_of(rt.alloc(), b"", b"", 0)?;
-        let mut fails = List::new(rt.alloc());
-        fails.push(call)?;
-        let mut out = SlowSink {
-            inner: MemorySink::new(rt.alloc(), fails),
-        };
-        let status = top(rt.alloc(), words.as_slice(), &mut files, &mut out);
-        let written = out.inner.as_slice();
-        assert_eq!(rt; status.number(), if call < 13 { 4 } else { 0 }, "at {call}");
-        assert_eq!(rt;
-            written.len() as u64,
-            if call < 13 { (call - 1) * 7 } else { 81 },
-            "at {call}"
-        );
-        assert!(rt; EMPTY.as_bytes().starts_with(written), "at {call}");
+fn schedules_have_so_many_moves(rt: HostRuntime) -> Result<(), Fail> {
+    let mut schedule = Vec::from_slice(rt.alloc(), b"1")?;
+    for _ in 1..10_000 {
+        schedule.extend_from_slice(b" 1")?;
     }
-    Ok(())
-}
-
-#[test]
-fn scripts_have_a_greatest_length(rt: HostRuntime) -> Result<(), Fail> {
-    let mut script = vec![in rt.alloc(); b' '; 16_777_216]?;
-    let (line, same) = gives(rt.alloc(), "- a.sql", b"", script.as_slice(), EMPTY)?;
-    assert_eq!(rt; line.as_str(), "0 ");
-    assert!(rt; same);
-    script.push(b' ')?;
-    let (line, same) = gives(rt.alloc(), "- a.sql", b"", script.as_slice(), "")?;
-    assert_eq!(rt; line.as_str(), "13 too long a.sql");
-    assert!(rt; same);
+    schedule.extend_from_slice(b"\n\n1")?;
+    let files = files_of(rt.alloc(), schedule.as_slice(), b"", b"")?;
+    assert!(rt;
+        ends_with(
+            rt.alloc(),
+            "schedule a.sql",
+            files,
+            "7 bad schedule at line 3"
+        )?
+    );
     Ok(())
 }
 
@@ -210,90 +161,56 @@ fn scripts_have_so_many_statements(rt: HostRuntime) -> Result<(), Fail> {
     for _ in 0..100_000 {
         script.extend_from_slice(b"x;")?;
     }
-    let (line, _) = gives(rt.alloc(), "- a.sql", b"", script.as_slice(), "")?;
-    assert_eq!(rt; line.as_str(), "0 ");
+    let files = files_of(rt.alloc(), b"x", script.as_slice(), b"")?;
+    assert!(rt; ends_with(rt.alloc(), "- a.sql", files, "7 bad schedule at line 1")?);
     script.extend_from_slice(b"x;")?;
-    let (line, same) = gives(rt.alloc(), "- a.sql", b"", script.as_slice(), "")?;
-    assert_eq!(rt; line.as_str(), "6 bad script a.sql: too many statements");
-    assert!(rt; same);
+    let files = files_of(rt.alloc(), b"x", script.as_slice(), b"")?;
+    let status = "6 bad script a.sql: too many statements";
+    assert!(rt; ends_with(rt.alloc(), "- a.sql", files, status)?);
+    let files = files_of(rt.alloc(), b"x", b"a'b\xff", b"")?;
+    assert!(rt;
+        ends_with(
+            rt.alloc(),
+            "- a.sql",
+            files,
+            "6 bad script a.sql: not utf-8 at 3"
+        )?
+    );
     Ok(())
 }
 
-/// In each row: the statements behind those of `TABLE`, and a line of the report that they give.
-const LINES: &str = "INSERT INTO t VALUES (2147483647,'abc');|5 answer 1 2 INSERT 1
-INSERT INTO t VALUES (-2147483648,null);|- -2147483648~\\N
-INSERT INTO t VALUES (2147483648,'a');|5 refuse 1 2 5 range
-INSERT INTO t VALUES (-2147483649,'a');|5 refuse 1 2 5 range
-INSERT INTO t VALUES (99999999999999999999999999999999999999,'a');|5 refuse 1 2 5 range
-INSERT INTO t VALUES (999999999999999999999999999999999999999,'a');|4 refuse 1 2 1 syntax 22
-INSERT INTO t VALUES (1,'aé');|- 1~aé
-INSERT INTO t VALUES (1,'abcd');|5 refuse 1 2 5 range
-INSERT INTO t VALUES (1,'éé');|5 refuse 1 2 5 range
-INSERT INTO t VALUES (1,'it''');|- 1~it'
-INSERT INTO t VALUES (1,'a\\b');|- 1~a\\\\b
-INSERT INTO t VALUES (NULL, NULL), (NULL, 'a');|table t rows 2
-INSERT INTO t VALUES (1);|4 refuse 1 2 4 clash
-INSERT INTO t VALUES (1,'a',2);|4 refuse 1 2 4 clash
-INSERT INTO t VALUES ('a','b');|4 refuse 1 2 4 clash
-INSERT INTO t VALUES (2147483648,'a'), ('x','y');|4 refuse 1 2 4 clash
-INSERT INTO t VALUES (1,'abcd'), (2147483648,'a');|5 refuse 1 2 5 range
-INSERT INTO t VALUES (1,'a'), ;|4 refuse 1 2 1 syntax 0
-INSERT INTO u VALUES (1);|4 refuse 1 2 2 unknown u
-CREATE TABLE t (y INTEGER);|4 refuse 1 2 3 exists t
-CREATE TABLE u (a INTEGER, b INTEGER, b INTEGER, a INTEGER);|4 refuse 1 2 3 exists b
-CREATE TABLE Aa (x VARCHAR(65535));|table aa rows 0
-CREATE TABLE u (x VARCHAR(65536));|4 refuse 1 2 1 syntax 0
-SELECT x FROM t WHERE x = 1;|5 answer 1 2 SELECT 0
-SELECT x FROM none WHERE y = 1;|4 refuse 1 2 2 unknown none
-SELECT y, x FROM t WHERE z = 1;|4 refuse 1 2 2 unknown y
-SELECT x FROM t WHERE z = 1;|4 refuse 1 2 2 unknown z
-SELECT x FROM t WHERE x = 'a';|4 refuse 1 2 4 clash
-INSERT INTO t VALUES (1,'a'),(2,'b'),(NULL,NULL),(1,'a'); SELECT X FROM T WHERE X = 1;|8 answer 1 3 SELECT 2
-INSERT INTO t VALUES (1,'a'),(2,'b'),(NULL,NULL),(1,'a'); SELECT x FROM t WHERE x <> 1;|8 answer 1 3 SELECT 1
-INSERT INTO t VALUES (1,'a'),(2,'b'),(NULL,NULL),(1,'a'); SELECT x FROM t WHERE x != 1;|8 answer 1 3 SELECT 1
-INSERT INTO t VALUES (1,'a'),(2,'b'),(NULL,NULL),(1,'a'); SELECT x FROM t WHERE x < 2;|8 answer 1 3 SELECT 2
-INSERT INTO t VALUES (1,'a'),(2,'b'),(NULL,NULL),(1,'a'); SELECT x FROM t WHERE x <= 2;|8 answer 1 3 SELECT 3
-INSERT INTO t VALUES (1,'a'),(2,'b'),(NULL,NULL),(1,'a'); SELECT x FROM t WHERE x > 1;|8 answer 1 3 SELECT 1
-INSERT INTO t VALUES (1,'a'),(2,'b'),(NULL,NULL),(1,'a'); SELECT x FROM t WHERE x >= 1;|8 answer 1 3 SELECT 3
-INSERT INTO t VALUES (1,'a'),(2,'b'),(NULL,NULL),(1,'a'); SELECT x FROM t WHERE x = NULL;|8 answer 1 3 SELECT 0
-INSERT INTO t VALUES (1,'a'),(2,'b'),(NULL,NULL),(1,'a'); SELECT s, s FROM t WHERE s < 'b';|- a~a
-INSERT INTO t VALUES (1,'a'),(2,'b'),(NULL,NULL),(1,'a'); SELECT s, x FROM t;|= s~x";
-
-/// The table that the rows of `LINES` speak of.
-const TABLE: &str = "CREATE TABLE t (x INTEGER, s VARCHAR(3));";
-
-/// Whether the report of the script has this line, in which `~` stands for a bar.
-fn prints(alloc: Global, script: &str, line: &str) -> Result<bool, AllocError> {
-    let words = words_of(alloc, "- a.sql")?;
-    let mut files = files_of(alloc, b"", script.as_bytes(), 0)?;
-    let mut out = MemorySink::new(alloc, List::new(alloc));
-    let status = top(alloc, words.as_slice(), &mut files, &mut out);
-    let wanted = line.replace(alloc, "~", "|")?;
-    let text = String::from_utf8_lossy(alloc, out.as_slice())?;
-    Ok(
-        status.number() == 0
-            && text
-                .as_str()
-                .lines()
-                .any(|printed| printed == wanted.as_str()),
-    )
+#[test]
+fn scripts_have_a_greatest_length(rt: HostRuntime) -> Result<(), Fail> {
+    let mut script = vec![in rt.alloc(); b'\xff'; 16_777_216]?;
+    let files = files_of(rt.alloc(), b"", script.as_slice(), b"")?;
+    let status = "6 bad script a.sql: not utf-8 at 0";
+    assert!(rt; ends_with(rt.alloc(), "schedule a.sql", files, status)?);
+    script.push(b' ')?;
+    let files = files_of(rt.alloc(), b"x", script.as_slice(), b"'")?;
+    assert!(rt;
+        ends_with(
+            rt.alloc(),
+            "schedule b.sql a.sql",
+            files,
+            "13 too long a.sql"
+        )?
+    );
+    Ok(())
 }
 
 #[test]
-fn statements_print_their_lines(rt: HostRuntime) -> Result<(), Fail> {
-    for row in LINES.lines() {
-        let mut fields = row.split('|');
-        let statements = fields.next().unwrap_or("");
-        let line = fields.next().unwrap_or("");
-        let script = format!(in rt.alloc(); "{TABLE}{statements}")?;
-        assert!(rt; prints(rt.alloc(), script.as_str(), line)?, "{row}");
+fn a_failing_read_is_a_fault(rt: HostRuntime) -> Result<(), Fail> {
+    let words = words_of(rt.alloc(), "schedule a.sql b.sql")?;
+    // A look and two reads of each file, and no more.
+    for call in 1..11_u64 {
+        let files = files_of(rt.alloc(), b"x", b"y", b"z")?;
+        let mut fails = List::new(rt.alloc());
+        fails.push(call)?;
+        let mut files = MemoryFiles::new(files, fails);
+        let mut out = MemorySink::new(rt.alloc(), List::new(rt.alloc()));
+        let status = top(rt.alloc(), words.as_slice(), &mut files, &mut out);
+        assert_eq!(rt; status.number(), if call < 10 { 3 } else { 7 }, "at {call}");
+        assert!(rt; out.as_slice().is_empty(), "at {call}");
     }
-    Ok(())
-}
-
-#[test]
-fn fields_are_escaped(rt: HostRuntime) -> Result<(), Fail> {
-    let script = "CREATE TABLE t (s VARCHAR(9)); INSERT INTO t VALUES ('a|b\nc');";
-    assert!(rt; prints(rt.alloc(), script, "- a\\~b\\nc")?);
     Ok(())
 }

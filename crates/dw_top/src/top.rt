@@ -1,35 +1,40 @@
 //! The call that runs a whole program, from its words to its status.
-ghost use Rattle.std.specs.Prelude.{◌≡◌, ◌≢◌, ◌≤◌, ◌↔◌, ◌⊎◌, ℕ, [], ◌∷◌, false, length, map, take, unwrap_or, IfOk, IfErr};
+ghost use Rattle.std.specs.Prelude.{◌≡◌, ◌≢◌, ◌<◌, ◌≤◌, ◌^◌, ◌↔◌, ◌⊎◌, ℕ, false, length, map, take, All, IfOk, IfErr};
 ghost use Rattle.dw_io.specs.Outside.{Held, Rose, appended};
+ghost use Rattle.dw_script.specs.Schedule.{IsMove, read_schedule};
 ghost use Rattle.dw_journal.specs.declared.Journal.{Journal as Events};
 ghost use Rattle.dw_print.specs.Report.{report};
+ghost use Rattle.dw_engine.specs.Run.{moves_of, AreShort, HaveNoVacuum};
+ghost use Rattle.dw_top.specs.declared.words.TheConstants.{MAX_SCRIPTS};
 ghost use Rattle.dw_top.specs.Words.{have_form};
-ghost use Rattle.dw_top.specs.Due.{due, due_of_names, MayAnswer, ComesBefore};
-ghost use Rattle.dw_core.specs.Run.{IsRun};
-ghost use Rattle.dw_core.specs.Session.{AllWork};
-ghost use Rattle.dw_top.specs.Run.{scripts_in, scripts_of};
+ghost use Rattle.dw_top.specs.Due.{due, due_of_names, due_of_bytes, MayAnswer, MayRejectMoves, ComesBefore, ComesOfBytes};
+ghost use Rattle.dw_top.specs.Run.{IsRun, givens_of, bytes_under, scripts_under, scripts_in, moves_read, moves_in};
 
-use crate::files::read_file;
-use crate::script::read_script;
+use crate::files::{read_file, read_files};
+use crate::script::read_scripts;
 use crate::words::names;
-use dw_core::run_script;
+use dw_engine::run_scripts;
 use dw_io::{Files, Sink, write_whole};
 use dw_journal::Given;
 use dw_print::report_text;
-use dw_script::{MAX_STATEMENTS, Status};
+use dw_script::{Move, Schedule, ScheduleFault, Status, read_schedule};
+use dw_serial::serial_order;
 use dw_value::{List, Text};
 use std::alloc::{AllocError, Global};
 
-/// Runs the script that `words` name, under the schedule that they name, and writes the report of the run to `out`.
+/// Runs the scripts that `words` name, a session for each, under the schedule that they name, and writes the report of
+/// the run to `out`.
 ///
-/// `words` are those behind the program's name. The schedule is read first and then the script, each of at most 16 MiB,
-/// and nothing is written before the run is done. A status other than `Ok` comes exactly where it is due, the first in
-/// this order: `Usage`, then `Missing` or `TooLong` for the first file that gives one, `BadScript`, `BadSchedule`.
-/// `Memory` may come in place of any but `Usage`. `ReadFault` and `WriteFault` come only where the count of faults of
+/// `words` are those behind the program's name: a schedule's name, and those of 1 to 64 scripts, of which one may stand
+/// twice. The files are read once, in this order, each of at most 16 MiB and all together of at most 1 GiB, and nothing is
+/// written before the run is done. Each move of the schedule is so many steps of one session, from 1 to the number of
+/// scripts; past the last move the sessions take one step each in turn, until all scripts are at their end.
+///
+/// A status other than `Ok` comes exactly where it is due, the first in this order: `Usage`, then `Missing` or `TooLong`
+/// for the first file that gives one, `BadScript` for the first script that can't be read, `BadSchedule` for the first bad
+/// line. `Memory` may come in place of any but `Usage`. `ReadFault` and `WriteFault` come only where the count of faults of
 /// `files` or of `out` rose in this call. After a `WriteFault` the sink has a part of the report from the front; after
 /// any other status but `Ok` it has what it had.
-///
-/// Time grows with the statements times the tables' size, since each statement works on a copy of the tables.
 pub fn top<F: Files, S: Sink>(alloc: Global, words: &[Text], files: &mut F, out: &mut S) -> Status
     ensures usage { (result ≡ Status.Usage) ↔ (have_form words.now ≡ false) }
     ensures keeps { F.held files.new ≡ F.held files.old }
@@ -40,18 +45,19 @@ pub fn top<F: Files, S: Sink>(alloc: Global, words: &[Text], files: &mut F, out:
     ensures untouched { result ≢ Status.Ok → result ≢ Status.WriteFault → S.has out.new ≡ S.has out.old }
     ensures due { (h : Held) → F.held files.old ≡ Some h → MayAnswer (due words.now h) result }
     ensures headline { (h : Held) → F.held files.old ≡ Some h → result ≡ Status.Ok →
-        (journal : Events) × IsRun (scripts_in words.now h) [] journal × (S.has out.new ≡ appended (S.has out.old) (report (scripts_in words.now h) journal)) }
+        (journal : Events) × IsRun (scripts_in words.now h) (moves_in words.now h) journal
+        × (S.has out.new ≡ appended (S.has out.old) (report (scripts_in words.now h) journal)) }
     ensures prefix { (h : Held) → F.held files.old ≡ Some h → result ≡ Status.WriteFault →
-        (journal : Events) × IsRun (scripts_in words.now h) [] journal
+        (journal : Events) × IsRun (scripts_in words.now h) (moves_in words.now h) journal
         × ((n : ℕ) × (S.has out.new ≡ appended (S.has out.old) (take n (report (scripts_in words.now h) journal)))) }
     ensures complete { (h : Held) → F.held files.old ≡ Some h → due words.now h ≡ Status.Ok →
         ¬ (Rose (F.faults files.old) (F.faults files.new)) → ¬ (Rose (S.faults out.old) (S.faults out.new)) →
         (result ≡ Status.Ok) ⊎ (result ≡ Status.Memory) }
 {
-    let Some((schedule, script)) = names(words) else {
+    let Some((schedule, scripts)) = names(words) else {
         return Status::Usage;
     };
-    let report = match prepare(alloc, schedule, script, files) {
+    let report = match prepare(alloc, schedule, scripts, files) {
         Ok(report) => report,
         Err(status) => return status,
     };
@@ -61,42 +67,81 @@ pub fn top<F: Files, S: Sink>(alloc: Global, words: &[Text], files: &mut F, out:
     }
 }
 
-/// The report of the run of the script of that name, under the schedule of that name, or what is due in its place.
+/// The report of the run of the scripts of those names, under the schedule of that name, or what is due in its place.
 fn prepare<F: Files>(
     alloc: Global,
     schedule: &Text,
-    script: &Text,
+    scripts: &[Text],
     files: &mut F,
 ) -> Result<List<u8>, Status>
+    requires { length scripts.now ≤ MAX_SCRIPTS }
     ensures keeps { F.held files.new ≡ F.held files.old }
     ensures count { F.faults files.old ≤ F.faults files.new }
     ensures fault { result ≡ Err Status.ReadFault → Rose (F.faults files.old) (F.faults files.new) }
     ensures early { IfErr result ComesBefore }
-    ensures refused { (h : Held) → F.held files.old ≡ Some h → IfErr result (MayAnswer (due_of_names schedule.now script.now h)) }
-    ensures due { (h : Held) → F.held files.old ≡ Some h → IfOk result (λ bytes. due_of_names schedule.now script.now h ≡ Status.Ok) }
+    ensures refused { (h : Held) → F.held files.old ≡ Some h → IfErr result (MayAnswer (due_of_names schedule.now scripts.now h)) }
+    ensures due { (h : Held) → F.held files.old ≡ Some h → IfOk result (λ bytes. due_of_names schedule.now scripts.now h ≡ Status.Ok) }
     ensures run { (h : Held) → F.held files.old ≡ Some h → IfOk result (λ bytes.
-        (journal : Events) × IsRun (scripts_of (unwrap_or (h script.now) [])) [] journal
-        × (bytes ≡ report (scripts_of (unwrap_or (h script.now) [])) journal)) }
+        (journal : Events) × IsRun (scripts_under scripts.now h) (moves_read (length scripts.now) (bytes_under h schedule.now)) journal
+        × (bytes ≡ report (scripts_under scripts.now h) journal)) }
 {
-    let moves = read_file(alloc, files, schedule)?;
-    let bytes = read_file(alloc, files, script)?;
-    let statements = read_script(alloc, script, bytes.as_slice())?;
-    if !moves.is_empty() {
-        return Err(Status::BadSchedule { line: 1 });
-    }
-    match report_of(alloc, statements.as_slice()) {
+    let moves = read_file(alloc, files, schedule, 0)?;
+    let statements = read_files(alloc, files, scripts, moves.len())?;
+    report_of(alloc, scripts, moves.as_slice(), statements.as_slice())
+}
+
+/// The report of the run of these scripts, of which each is named, under this schedule, or what is due in its place.
+fn report_of(
+    alloc: Global,
+    names: &[Text],
+    schedule: &[u8],
+    scripts: &[List<u8>],
+) -> Result<List<u8>, Status>
+    requires same { length names.now ≡ length scripts.now }
+    requires few { length scripts.now ≤ MAX_SCRIPTS }
+    ensures of_bytes { IfErr result ComesOfBytes }
+    ensures refused { IfErr result (MayAnswer (due_of_bytes names.now schedule.now scripts.now)) }
+    ensures due { IfOk result (λ bytes. due_of_bytes names.now schedule.now scripts.now ≡ Status.Ok) }
+    ensures run { IfOk result (λ bytes.
+        (journal : Events) × IsRun (map givens_of scripts.now) (moves_read (length scripts.now) schedule.now) journal
+        × (bytes ≡ report (map givens_of scripts.now) journal)) }
+{
+    let statements = read_scripts(alloc, names, scripts)?;
+    let schedule = read_moves(alloc, schedule, scripts.len() as u32)?;
+    match report_of_run(alloc, statements, schedule.moves.as_slice()) {
         Ok(report) => Ok(report),
         Err(_) => Err(Status::Memory),
     }
 }
 
-/// The report of the run of a script.
-fn report_of(alloc: Global, script: &[Given]) -> Result<List<u8>, AllocError>
-    requires few { length script.now ≤ MAX_STATEMENTS }
-    requires works { AllWork script.now }
-    ensures { IfOk result (λ bytes. (journal : Events) × IsRun (script.now ∷ []) [] journal
-        × (bytes ≡ report (script.now ∷ []) journal)) }
+/// The schedule that these bytes say, for so many sessions, or its first bad line.
+fn read_moves(alloc: Global, bytes: &[u8], sessions: u32) -> Result<Schedule, Status>
+    ensures read { IfOk result (λ schedule. read_schedule sessions bytes.now ≡ Ok schedule.moves) }
+    ensures moves { IfOk result (λ schedule. All (IsMove sessions) schedule.moves) }
+    ensures rejected { IfErr result (MayRejectMoves (read_schedule sessions bytes.now)) }
+    ensures of_bytes { IfErr result ComesOfBytes }
 {
-    let ran = run_script(alloc, script)?;
-    report_text(alloc, &ran.journal, &ran.database, &ran.serial)
+    match read_schedule(alloc, bytes, sessions) {
+        Ok(schedule) => Ok(schedule),
+        Err(ScheduleFault::Bad { line }) => Err(Status::BadSchedule { line }),
+        Err(ScheduleFault::Memory) => Err(Status::Memory),
+    }
+}
+
+/// The report of the run of scripts under the moves of a schedule.
+fn report_of_run(
+    alloc: Global,
+    scripts: List<List<Given>>,
+    moves: &[Move],
+) -> Result<List<u8>, AllocError>
+    requires sessions { length scripts < 2 ^ 16 }
+    requires short { AreShort scripts }
+    requires no_vacuum { HaveNoVacuum scripts }
+    requires moves { All (IsMove (length scripts)) moves.now }
+    ensures { IfOk result (λ bytes. (journal : Events) × IsRun scripts (moves_of moves.now) journal
+        × (bytes ≡ report scripts journal)) }
+{
+    let ran = run_scripts(alloc, scripts, moves)?;
+    let serial = serial_order(alloc, &ran.journal)?;
+    report_text(alloc, &ran.journal, &ran.database, &serial)
 }

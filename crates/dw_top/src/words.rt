@@ -1,28 +1,39 @@
 //! The words of the command line.
-ghost use Rattle.std.specs.Prelude.{◌≡◌, option_map};
-ghost use Rattle.dw_top.specs.Words.{is_option, is_generator, are_names, names_of};
+ghost use Rattle.std.specs.Prelude.{◌≡◌, ◌≤◌, length, option_map, IfSome};
+ghost use Rattle.dw_top.specs.Words.{is_option, is_generator, is_count, are_names, names_of};
 
 use dw_value::Text;
 
-/// The names of the schedule and of the script. `None` comes exactly where the words haven't the form of the command:
-/// two words that are names.
-pub(crate) fn names(words: &[Text]) -> Option<(&Text, &Text)>
-    ensures { option_map (λ names. (names.0.now, names.1.now)) result ≡ names_of words.now }
+/// The most scripts that one run takes. The limit is this project's own.
+pub(crate) const MAX_SCRIPTS: usize = 64;
+
+/// The names of the schedule and of the scripts. `None` comes exactly where the words haven't the form of the command: a
+/// schedule's name and 1 to 64 scripts' names. A word that begins with `-` and is longer than that one byte is no name,
+/// and a schedule's name doesn't begin with `gen:`. The form is this project's own.
+pub(crate) fn names(words: &[Text]) -> Option<(&Text, &[Text])>
+    ensures names { option_map (λ names. (names.0.now, names.1.now)) result ≡ names_of words.now }
+    ensures few { IfSome result (λ names. length names.1.now ≤ MAX_SCRIPTS) }
 {
     match words {
-        [schedule, script] if are_names(schedule.as_bytes(), script.as_bytes()) => {
-            Some((schedule, script))
-        }
+        [schedule, scripts @ ..]
+            if are_names(words) && !is_generator(schedule.as_bytes()) && is_count(scripts.len()) =>
+            { Some((schedule, scripts)) }
         _ => None,
     }
 }
 
-/// Whether the words name a schedule and a script. A word that begins with `-` and is longer than that one byte is no
-/// name, and a schedule's name doesn't begin with `gen:`. The form is this project's own.
-fn are_names(schedule: &[u8], script: &[u8]) -> bool
-    ensures { result ≡ are_names schedule.now script.now }
+/// Whether none of the words is an option.
+fn are_names(words: &[Text]) -> bool
+    ensures { result ≡ are_names words.now }
 {
-    !(is_option(schedule) || is_option(script) || is_generator(schedule))
+    words.iter().all(|word| !is_option(word.as_bytes()))
+}
+
+/// Whether so many scripts may be named.
+fn is_count(scripts: usize) -> bool
+    ensures { result ≡ is_count scripts }
+{
+    1 <= scripts && scripts <= MAX_SCRIPTS
 }
 
 /// Whether the word begins with `-` and is longer than that one byte.

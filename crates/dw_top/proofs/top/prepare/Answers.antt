@@ -1,18 +1,18 @@
-use Rattle.std.proofs.Common.{◌≡◌, ◌∙◌, [], ap, map, subst}
-use Rattle.dw_script.specs.Statements.{statements}
-use Rattle.dw_journal.specs.History.{Scripts}
-use Rattle.dw_core.specs.Run.{IsRun}
-use Rattle.dw_print.specs.Report.{report}
-use Rattle.dw_top.specs.Run.{given_of}
-use Rattle.dw_top.proofs.Scripted.{scripts-from-had}
+use Rattle.std.proofs.Common.{length, map, ap, sym, ◌∙◌}
+use Rattle.dw_top.specs.Run.{givens_of, moves_read}
+use Rattle.dw_top.proofs.Scripted.{bytes_there, scripts_had, run_same}
 use Rattle.dw_top.proofs.top.prepare.Goals as goal
 
--- the run is one of the script that is held, since the bytes read are those that stand under its name
-pub returns-in-Ok-clause-run : goal.returns-in-Ok-clause-run
-returns-in-Ok-clause-run g c held told =
-    let run = c.in-Ok.ensures in
-    let had = c.in_ok-bytes.ensures.had held (c.read_file.ensures.keeps ∙ told) in
-    let read = ap (λ bytes. map given_of (statements bytes)) c.as_slice.ensures.items in
-    let are = c.as_slice-2.ensures.items ∙ c.in_ok-statements.ensures.givens ∙ read in
-    let scripts = scripts-from-had held c.args.script.now c.in_ok-bytes.bytes c.as_slice-2.result.now had are in
-    (run.0, subst (λ (scripts : Scripts). IsRun scripts [] run.0) scripts run.1, subst (λ (scripts : Scripts). c.in-Ok.report ≡ report scripts run.0) scripts run.2)
+-- the run is one of the scripts that are held under the schedule that is, since the bytes read are those under the names
+pub returns-clause-run : goal.returns-clause-run
+returns-clause-run g c held told =
+    let schedule = c.args.schedule.now in
+    let names = c.args.scripts.now in
+    let moves = c.in_ok-moves.moves in
+    let files = c.in_ok-statements.statements in
+    let there = bytes_there held 0 schedule moves (c.in_ok-moves.ensures.had held told) in
+    let had = c.in_ok-statements.ensures.had held (c.read_file.ensures.keeps ∙ told) in
+    let scripts = ap (map givens_of) c.as_slice-2.ensures.items ∙ scripts_had held c.len.result names files had in
+    let go = ap (λ count. moves_read count c.as_slice.result.now) (ap length c.as_slice-2.ensures.items ∙ c.in_ok-statements.ensures.each)
+    ∙ ap (λ bytes. moves_read (length names) bytes) (c.as_slice.ensures.items ∙ sym there) in
+    run_same c.report_of.result _ _ _ _ scripts go c.report_of.ensures.run

@@ -1,0 +1,26 @@
+use Rattle.std.proofs.Common.{◌≡◌, reverse, sym, subst}
+use Rattle.dw_journal.specs.History.{IsSession}
+use Rattle.dw_core.specs.Machine.{Machine, snapshot_next}
+use Rattle.dw_core.proofs.Stand.{agrees_at}
+use Rattle.dw_core.proofs.Kept.{snapshot_some, snapshot_none}
+use Rattle.dw_core.proofs.cores.Core.snapshot_next.Goals as goal
+
+pub returns-in-Some : goal.returns-in-Some
+returns-in-Some c =
+    let i = c.self.inside in
+    let session = c.args.session in
+    let kept = c.index.result.now in
+    let machine : Machine = record { shape = i.shape; scripts = i.scripts; events = reverse i.events.items } in
+    let is : IsSession i.scripts session = subst (λ (m : Machine). IsSession m.scripts session) (sym c.self.view_is) c.requires.session in
+    let agrees = agrees_at i.shape i.scripts machine.events i.sessions.items i.certifier.commits _ _ c.self.invariant session c.place_of.result kept is c.place_of.ensures c.index.ensures in
+    subst (λ (m : Machine). c.in-Some.transaction.taken.snapshot ≡ snapshot_next m session) c.self.view_is (snapshot_some machine session is.0 kept agrees c.in-Some.transaction c.in-Some.is)
+
+pub returns-in-None : goal.returns-in-None
+returns-in-None c =
+    let i = c.self.inside in
+    let session = c.args.session in
+    let kept = c.index.result.now in
+    let machine : Machine = record { shape = i.shape; scripts = i.scripts; events = reverse i.events.items } in
+    let is : IsSession i.scripts session = subst (λ (m : Machine). IsSession m.scripts session) (sym c.self.view_is) c.requires.session in
+    let agrees = agrees_at i.shape i.scripts machine.events i.sessions.items i.certifier.commits _ _ c.self.invariant session c.place_of.result kept is c.place_of.ensures c.index.ensures in
+    subst (λ (m : Machine). c.len.result ≡ snapshot_next m session) c.self.view_is (snapshot_none machine session is.0 kept agrees i.certifier.commits c.len.result c.in-None.is c.self.invariant.certified_are c.len.ensures)

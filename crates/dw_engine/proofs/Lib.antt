@@ -1,0 +1,11 @@
+pub mod Progress
+pub mod Stepwise
+pub mod Dues
+pub mod Views
+pub mod Installs
+pub mod Going
+pub mod Results
+pub mod Seeing
+pub mod Deciding
+pub mod Answering
+pub mod Starting

@@ -1,0 +1,15 @@
+use Rattle.std.proofs.Common.{refl, ap, None}
+use Rattle.std.proofs.Math.ListN.{set}
+use Rattle.std.specs.Vec.{with_item}
+use Rattle.dw_journal.specs.declared.Event.TheVariants.{Refuse}
+use Rattle.dw_core.specs.Machine.{number_due}
+use Rattle.dw_engine.proofs.Going.{Goes-ended}
+use Rattle.dw_engine.proofs.blocks.decline.Goals as goal
+
+pub returns-clause-goes : goal.returns-clause-goes
+returns-clause-goes c =
+    let before = c.args.engine.now in
+    let session = c.args.session in
+    Goes-ended before (record { core = c.declined.new.self; database = before.database; views = with_item before.views c.place_of.result None }) session
+    (Refuse session (number_due before.core session) c.args.refusal) c.requires.stands c.requires.session.0 c.requires.comes refl refl c.in_ok-declined.ensures.ok c.requires.stands.newest
+    (ap (λ p. set before.views.items p None) c.place_of.ensures) refl

@@ -1,0 +1,309 @@
+//! Scripts driven side by side, with ample memory.
+ghost use Rattle.std.specs.Prelude.{◌≡◌, ◌<◌, ◌^◌, ℕ, List as Items, Some, length, slice_get, IsTrue};
+ghost use Rattle.dw_model.specs.declared.statements.Statement.TheVariants as form;
+ghost use Rattle.dw_journal.specs.declared.Given.TheVariants.{Read};
+ghost use Rattle.dw_engine.specs.Run.{AreShort, HaveNoVacuum};
+
+use crate::{Ran, run_scripts};
+use dw_journal::{Event, Given};
+use dw_model::{Answer, ColumnSpec, Object, Query, Refusal, Statement, TableSpec};
+use dw_script::read_schedule;
+use dw_value::{Kind, List, Row, Text, Value};
+use std::alloc::{AllocError, Global};
+use std::test::Fail;
+
+/// Scripts, one on each line; a schedule; some events of the run, each behind its number; and tables with the number of
+/// their rows.
+const RUNS: [(&str, &str, &str, &str); 9] = [
+    // Each of two sessions reads what the other writes: the second commit is a violation.
+    (
+        "create a; create b; begin; select a; insert b 1; commit
+begin; select b; insert a 1; commit",
+        "1*9 2*3 1*2 2*2 1 2",
+        "14 answer 1 5
+17 commit 1 6 3 3 2
+18 violation 2 4 3 3 rows b
+19 end 1
+20 end 2",
+        "a 0
+b 1",
+    ),
+    // A reader that commits behind a writer of what it read comes before it in serial order.
+    (
+        "create t; create u; begin; select t; commit
+insert t 7",
+        "1*9 2*3 1",
+        "8 open 1 4 2
+12 commit 2 1 3 3 1
+13 commit 1 5 4 3 1",
+        "t 1
+u 0",
+    ),
+    // Inserts that read no row of their table are both committed, whatever their order.
+    (
+        "create t; create u; begin; select u; insert t 1; commit
+begin; select u; insert t 2; commit",
+        "1*9 2*3 1*3 2*3",
+        "15 commit 1 6 3 3 2
+18 commit 2 4 4 4 3",
+        "t 2
+u 0",
+    ),
+    // The last transaction of three sessions comes before the first of its own session.
+    (
+        "create x; create y; create z; insert x 1
+begin; select x; insert y 1; commit
+insert z 1; begin; select y; commit",
+        "1*9 2*3 1*3 3*6 2*3 3",
+        "3 commit 1 1 1 1 0
+6 commit 1 2 2 2 0
+9 commit 1 3 3 3 0
+15 commit 1 4 4 4 1
+18 commit 3 1 5 5 3
+24 commit 2 4 6 4 2
+25 commit 3 4 7 4 2",
+        "x 1
+y 1
+z 1",
+    ),
+    // A refusal aborts its block, which then can only be rolled back.
+    (
+        "begin; select none; select none; begin; commit",
+        "",
+        "1 begin 1 1
+2 refuse 1 2 2
+3 refuse 1 3 11
+4 refuse 1 4 11
+5 rollback 1 5
+6 end 1",
+        "",
+    ),
+    // Words that have nothing to do pass, and so does the COMMIT of a block in which nothing was opened.
+    (
+        "commit; rollback; begin; begin; commit; commit",
+        "",
+        "1 pass 1 1
+2 pass 1 2
+3 begin 1 3
+4 pass 1 4
+5 pass 1 5
+6 pass 1 6
+7 end 1",
+        "",
+    ),
+    // A block sees its own inserts, and leaves no trace once it is rolled back.
+    (
+        "create t; begin; insert t 1; select t; rollback; select t",
+        "",
+        "6 answer 1 3
+8 rows 1 4 1
+9 rollback 1 5
+11 rows 1 6 0",
+        "t 0",
+    ),
+    // A session sees its snapshot, whatever is committed afterwards, and its own inserts beside it.
+    (
+        "create t; begin; select t; insert t 1; select t; rollback; select t
+insert t 2",
+        "1*6 2*3 1*2 1*2",
+        "6 rows 1 3 0
+9 commit 2 1 2 2 1
+13 rows 1 5 1
+17 rows 1 7 1",
+        "t 1",
+    ),
+    // A statement that isn't in the grammar is refused, and the script goes on.
+    (
+        "?; create t; insert t 1",
+        "",
+        "1 refuse 1 1 1
+4 commit 1 2 1 1 0
+7 commit 1 3 2 2 1
+8 end 1",
+        "t 1",
+    ),
+];
+
+fn columns(alloc: Global) -> Result<List<ColumnSpec>, AllocError> {
+    let mut columns = List::new(alloc);
+    columns.push(ColumnSpec {
+        name: Text::from_str(alloc, "x")?,
+        kind: Kind::Int,
+    })?;
+    Ok(columns)
+}
+
+fn rows(alloc: Global, literal: &str) -> Result<List<Row>, AllocError> {
+    let mut values = List::new(alloc);
+    values.push(Value::Number(literal.parse::<i128>().unwrap_or(0)))?;
+    let mut rows = List::new(alloc);
+    rows.push(Row { values })?;
+    Ok(rows)
+}
+
+fn items(alloc: Global) -> Result<List<Text>, AllocError> {
+    let mut items = List::new(alloc);
+    items.push(Text::from_str(alloc, "x")?)?;
+    Ok(items)
+}
+
+fn given(alloc: Global, text: &str) -> Result<Given, AllocError> {
+    let mut words = text.split_whitespace();
+    let form = words.next().unwrap_or("");
+    let table = Text::from_str(alloc, words.next().unwrap_or(""))?;
+    let literal = words.next().unwrap_or("");
+    Ok(match form {
+        "begin" => Given::Read(Statement::Begin),
+        "commit" => Given::Read(Statement::Commit),
+        "rollback" => Given::Read(Statement::Rollback),
+        "create" => {
+            let spec = TableSpec {
+                name: table,
+                columns: columns(alloc)?,
+            };
+            Given::Read(Statement::Create { spec })
+        }
+        "insert" => Given::Read(Statement::Insert {
+            table,
+            rows: rows(alloc, literal)?,
+        }),
+        "select" => {
+            let query = Query {
+                items: items(alloc)?,
+                table,
+                keep: None,
+            };
+            Given::Read(Statement::Select { query })
+        }
+        _ => Given::Refused(Refusal::Syntax { place: 0 }),
+    })
+}
+
+fn scripts(alloc: Global, text: &str) -> Result<List<List<Given>>, AllocError> {
+    let mut scripts = List::new(alloc);
+    for line in text.lines() {
+        let mut script = List::new(alloc);
+        for statement in line.split(';') {
+            script.push(given(alloc, statement)?)?;
+        }
+        scripts.push(script)?;
+    }
+    Ok(scripts)
+}
+
+/// Whether a script is short and sweeps no table.
+fn is_fit(script: &[Given]) -> bool
+    ensures short { IsTrue result → length script.now < 2 ^ 32 }
+    ensures no_vacuum { IsTrue result → (place : ℕ) (table : Items ℕ) → slice_get script.now place ≡ Some (Read (form.Vacuum table)) → ⊥ }
+{
+    for given in script {
+        if matches!(given, Given::Read(Statement::Vacuum { .. })) {
+            return false;
+        }
+    }
+    script.len() < 1_000
+}
+
+/// Whether all scripts are.
+fn are_fit(scripts: &[List<Given>]) -> bool
+    ensures short { IsTrue result → AreShort scripts.now }
+    ensures no_vacuum { IsTrue result → HaveNoVacuum scripts.now }
+{
+    for script in scripts {
+        if !is_fit(script.as_slice()) {
+            return false;
+        }
+    }
+    true
+}
+
+fn run(alloc: Global, text: &str, moves: &str) -> Result<Ran, AllocError> {
+    let scripts = scripts(alloc, text)?;
+    let sessions = scripts.len();
+    if sessions > 64 || !are_fit(scripts.as_slice()) {
+        return Err(AllocError);
+    }
+    let Ok(schedule) = read_schedule(alloc, moves.as_bytes(), sessions as u32) else {
+        return Err(AllocError);
+    };
+    run_scripts(alloc, scripts, schedule.moves.as_slice())
+}
+
+fn told(alloc: Global, event: &Event) -> Result<String, AllocError> {
+    match event {
+        Event::Begin { session, statement } => format!(in alloc; "begin {session} {statement}"),
+        Event::Pass {
+            session,
+            statement,
+            ..
+        } => format!(in alloc; "pass {session} {statement}"),
+        Event::Opened {
+            session,
+            statement,
+            snapshot,
+            ..
+        } => format!(in alloc; "open {session} {statement} {snapshot}"),
+        Event::Answer {
+            session,
+            statement,
+            answer: Answer::Rows { rows, .. },
+        } => format!(in alloc; "rows {session} {statement} {}", rows.len()),
+        Event::Answer {
+            session,
+            statement,
+            ..
+        } => format!(in alloc; "answer {session} {statement}"),
+        Event::Commit {
+            session,
+            statement,
+            stamp,
+            low,
+            high,
+        } => format!(in alloc; "commit {session} {statement} {stamp} {low} {high}"),
+        Event::Violation {
+            session,
+            statement,
+            low,
+            high,
+            object: Object::Rows(name),
+        } => format!(in alloc;
+            "violation {session} {statement} {low} {high} rows {}",
+            name.as_str()
+        ),
+        Event::Refuse {
+            session,
+            statement,
+            refusal,
+        } => format!(in alloc; "refuse {session} {statement} {}", refusal.number()),
+        Event::Rollback { session, statement } => format!(in alloc;
+            "rollback {session} {statement}"
+        ),
+        Event::End { session } => format!(in alloc; "end {session}"),
+        _ => String::from_str(alloc, "other"),
+    }
+}
+
+/// Whether a run has the events and the tables.
+#[test]
+fn scripts_are_driven_as_worked_out(rt: HostRuntime) -> Result<(), Fail> {
+    let alloc = rt.alloc();
+    for (text, moves, events, tables) in RUNS {
+        let ran = run(alloc, text, moves)?;
+        for line in events.lines() {
+            let (number, wanted) = line.split_once(" ").ok_or("an event has a number")?;
+            let place = number.parse::<usize>().unwrap_or(1).saturating_sub(1);
+            let event = ran.journal.events.get(place).ok_or("the event is there")?;
+            assert_eq!(rt; told(alloc, event)?.as_str(), wanted, "{text}");
+        }
+        assert_eq!(rt; ran.database.len(), tables.lines().count());
+        for line in tables.lines() {
+            let (name, count) = line.split_once(" ").ok_or("a table has a number of rows")?;
+            let table = ran
+                .database
+                .get(&Text::from_str(alloc, name)?)
+                .ok_or("the table is there")?;
+            assert_eq!(rt; table.rows.len(), count.parse::<usize>().unwrap_or(9));
+        }
+    }
+    Ok(())
+}

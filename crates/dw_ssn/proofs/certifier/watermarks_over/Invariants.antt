@@ -1,8 +1,0 @@
-use Rattle.dw_ssn.proofs.Rest.{Marked}
-use Rattle.dw_ssn.proofs.certifier.watermarks_over.Given as goal
-
-abbrev pub invariant-loop-left : goal.invariant-loop-left
-invariant-loop-left l = Marked l.commits l.left l.marks.low l.marks.high l.taken.snapshot l.taken.reads l.taken.writes
-
-abbrev pub decreases-loop-left : goal.decreases-loop-left
-decreases-loop-left l = l.left
