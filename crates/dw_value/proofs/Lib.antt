@@ -1,3 +1,9 @@
+pub mod Antisymmetry
+pub mod SortedLaws
+pub mod SortedItems
+pub mod SortedRows
+pub mod Ascending
+pub mod Scales
 pub mod EndSpaces
 pub mod Powers
 pub mod Years

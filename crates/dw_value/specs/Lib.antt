@@ -1,10 +1,5 @@
 pub mod Texts
 pub mod Dates
 pub mod Values
-pub mod Sorted
 pub mod ValueOrder
-pub mod SortedLaws
-pub mod SortedItems
-pub mod Ascending
-pub mod SortedRows
-pub mod Scales
+pub mod Sorted

@@ -1,3 +1,5 @@
+//! Kinds and encodings of columns, comparisons and truths.
+
 /// What a column takes: the kinds of the Amazon Redshift guide (data types) that this project has.
 #[derive(Debug, Clone, Copy, PartialEq, Eq, Drop)]
 pub enum Kind {
@@ -7,8 +9,8 @@ pub enum Kind {
     Int,
     /// BIGINT: a whole number from -2^63 to 2^63 - 1.
     Big,
-    /// DECIMAL(p,s): a number with `scale` digits behind the point, and at most `precision` digits in all. The precision is
-    /// from 1 to 38, the scale from 0 to 37 and at most the precision.
+    /// DECIMAL(p,s): a number with `scale` digits after the point, and at most `precision` digits in all. The precision
+    /// is from 1 to 38, the scale from 0 to 37 and at most the precision.
     Decimal { precision: u8, scale: u8 },
     /// CHAR(n): a text of at most `length` bytes, from 1 to 4,096, without the spaces at its end.
     Char { length: u32 },

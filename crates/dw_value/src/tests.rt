@@ -1,3 +1,4 @@
+//! Tests of values, texts, lists and rows.
 use super::*;
 use std::alloc::{AllocError, Global};
 use std::cmp::Ordering;
@@ -122,13 +123,22 @@ fn containers_hold_what_they_are_given(rt: HostRuntime) -> Result<(), Fail> {
     assert!(rt; copy == text);
     assert_eq!(rt; text.pop(), Some('.'));
     assert!(rt; copy != text);
+    let mut texts = List::new(rt.alloc());
+    let mut fields = List::new(rt.alloc());
+    fields.push(Field::Shown(copy.copy()?))?;
+    texts.push(copy)?;
+    assert!(rt; texts.copy()? == texts);
+    assert!(rt; fields.copy()? == fields);
 
     let mut list = List::new(rt.alloc());
     for number in [3_u32, 1, 2] {
         list.push(number)?;
     }
+    let mut lists = List::with_capacity(rt.alloc(), 1)?;
+    lists.push(list.copy()?)?;
     let copy = list.copy()?;
     assert!(rt; copy == list);
+    assert!(rt; lists.copy()? == lists);
     assert_eq!(rt; list.pop(), Some(2));
     assert!(rt; copy != list);
     assert_eq!(rt; list.get(1), Some(&1));
@@ -312,7 +322,7 @@ fn rows_are_sorted_with_null_last(rt: HostRuntime) -> Result<(), Fail> {
         "-2147483648 é ;2 b ;2 b ;2 NULL ;NULL a ;"
     );
     let more = rows(rt.alloc(), &[(99, "-"), (2, "b"), (0, "x")])?;
-    let all = add_rows(sorted, more)?;
+    let all = add_rows(sorted.copy()?, more)?;
     assert_eq!(rt;
         written(rt.alloc(), &all)?.as_str(),
         "-2147483648 é ;0 x ;2 b ;2 b ;2 b ;2 NULL ;NULL a ;NULL NULL ;"
