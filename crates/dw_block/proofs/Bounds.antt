@@ -10,8 +10,8 @@ use Rattle.dw_value.specs.declared.kinds.Comparison.{Comparison}
 use Rattle.dw_value.specs.declared.values.Value.{Value}
 use Rattle.dw_value.specs.Values.{scaled_cmp, times, is_null, passes}
 use Rattle.dw_value.specs.ValueOrder.{value_cmp_total}
-use Rattle.dw_value.specs.SortedLaws.{turned}
-use Rattle.dw_value.specs.Scales.{times-value_cmp}
+use Rattle.dw_value.proofs.SortedLaws.{turned}
+use Rattle.dw_value.proofs.Scales.{times-value_cmp}
 use Rattle.dw_block.specs.declared.zone.Test.{Test}
 use Rattle.dw_block.specs.declared.zone.Test.TheVariants.{Compare, IsNull, NotNull}
 use Rattle.dw_block.specs.Zones.{earlier, earlier_of, least_of, greatest_of, zone_of, bounds_may_hold, may_match, passes_test}
@@ -30,7 +30,7 @@ lt_not_gt Equal e = refl
 lt_not_gt Greater e = absurd (true≢false (sym e))
 
 module _ {R : Value → Value → Ordering} (total : IsTotalOrder R) where
-  -- there is a first value, and it isn't behind v
+  -- there is a first value, and it isn't after v
   abbrev pub Bounds : Option Value → Value → Type 0
   Bounds None v = ⊥
   Bounds (Some first) v = is_gt (R first v) ≡ false

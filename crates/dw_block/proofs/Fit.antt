@@ -1,19 +1,18 @@
 -- The values of a kind fit the bytes of their kind.
-use Rattle.std.proofs.Common.{◌≡◌, ℕ, ◌^◌, ◌≤◌, ◌<◌, Bool, true, false, ◌&&◌, ℤ, pos, negsuc, List, length, Ok, Err, if◌then◌else◌, refl, sym, ap, arith, true≢false, FitsSigned, w32, unsigned_abs}
+use Rattle.std.proofs.Common.{◌≡◌, ℕ, ◌^◌, ◌≤◌, ◌<◌, Bool, true, false, ◌&&◌, ℤ, pos, negsuc, Ok, Err, if◌then◌else◌, refl, sym, arith, true≢false, FitsSigned, w32, unsigned_abs}
 use Rattle.std.specs.Prelude.{int_le, nat_le, ◌≤ℤ◌}
 use Rattle.std.proofs.lemmas.Int.{ints}
 use Rattle.std.proofs.lemmas.Bool.{leb-true, ltb-true}
 use Rattle.dw_value.specs.declared.kinds.Kind.{Kind}
 use Rattle.dw_value.specs.declared.kinds.Kind.TheVariants.{Small, Int, Big, Decimal, Char, Varchar, Date, Bool as Boolean}
 use Rattle.dw_value.specs.declared.kinds.Misfit.{Misfit}
-use Rattle.dw_value.specs.declared.kinds.Misfit.TheVariants.{Range, Length}
+use Rattle.dw_value.specs.declared.kinds.Misfit.TheVariants.{Range}
 use Rattle.dw_value.specs.declared.values.Value.{Value}
-use Rattle.dw_value.specs.declared.values.Value.TheVariants.{Number, Words, Day, Truth}
-use Rattle.dw_value.specs.Texts.{without_end_spaces}
+use Rattle.dw_value.specs.declared.values.Value.TheVariants.{Number, Day, Truth}
 use Rattle.dw_value.specs.Values.{is_within, holds_number}
 use Rattle.dw_value.proofs.Powers.{ten_below, ten_38}
 use Rattle.dw_codec_plain.specs.Numbers.{half, FitsWidth}
-use Rattle.dw_block.specs.Blocks.{width, IsKind, IsOf}
+use Rattle.dw_block.specs.Blocks.{width, IsKind, IsValueOf}
 
 -- a test that lets a value through
 test_holds : (t : Bool) (v : Value) (m : Misfit) → (if t then Ok v else Err m) ≡ Ok v → t ≡ true
@@ -67,7 +66,7 @@ decimal_by precision n false e most lt =
     let few : 10 ^ precision ≤ 10 ^ 38 = ten_below precision 38 most in
     size_16 n (omega (arith, few, ten_38))
 
-pub number_fits : (kind : Kind) (n : ℤ) → IsKind kind → IsOf kind (Number n) → FitsWidth (width kind) n
+pub number_fits : (kind : Kind) (n : ℤ) → IsKind kind → IsValueOf kind (Number n) → FitsWidth (width kind) n
 number_fits Small n is of = small_fits n (test_holds (holds_number Small n) (Number n) Range of.held)
 number_fits Int n is of = int_fits n (test_holds (holds_number Int n) (Number n) Range of.held)
 number_fits Big n is of = big_fits n (test_holds (holds_number Big n) (Number n) Range of.held)
@@ -83,7 +82,7 @@ date_fits : (n : ℤ) → FitsSigned w32 n → FitsWidth 4 n
 unfolding half
 date_fits n fits = record { least = omega (arith, ints, fits); greatest = omega (arith, ints, fits) }
 
-pub day_fits : (kind : Kind) (n : ℤ) → FitsSigned w32 n → IsOf kind (Day n) → FitsWidth (width kind) n
+pub day_fits : (kind : Kind) (n : ℤ) → FitsSigned w32 n → IsValueOf kind (Day n) → FitsWidth (width kind) n
 day_fits Date n fits of = date_fits n fits
 day_fits Small n fits of = absurd (true≢false (sym of.goes))
 day_fits Int n fits of = absurd (true≢false (sym of.goes))
@@ -97,7 +96,7 @@ bit_fits : (n : ℕ) → n ≤ 1 → FitsWidth 1 (pos n)
 unfolding half
 bit_fits n le = record { least = omega (arith, ints); greatest = omega (arith, ints) }
 
-pub truth_fits : (kind : Kind) (b : Bool) (n : ℕ) → n ≤ 1 → IsOf kind (Truth b) → FitsWidth (width kind) (pos n)
+pub truth_fits : (kind : Kind) (b : Bool) (n : ℕ) → n ≤ 1 → IsValueOf kind (Truth b) → FitsWidth (width kind) (pos n)
 truth_fits Boolean b n le of = bit_fits n le
 truth_fits Small b n le of = absurd (true≢false (sym of.goes))
 truth_fits Int b n le of = absurd (true≢false (sym of.goes))
@@ -106,23 +105,6 @@ truth_fits (Decimal precision scale) b n le of = absurd (true≢false (sym of.go
 truth_fits (Char limit) b n le of = absurd (true≢false (sym of.goes))
 truth_fits (Varchar limit) b n le of = absurd (true≢false (sym of.goes))
 truth_fits Date b n le of = absurd (true≢false (sym of.goes))
-
-within_by : (limit : ℕ) (held text : List ℕ) (t : Bool) → nat_le (length held) limit ≡ t → (if t then Ok (Words held) else Err Length) ≡ Ok (Words text) → length text ≤ limit
-within_by limit held text true e is =
-    let same : held ≡ text = cc in
-    let le : length held ≤ limit = leb-true (length held) limit e in
-    omega (arith, ap length same)
-within_by limit held text false e is = cc
-
-pub text_fits : (kind : Kind) (text : List ℕ) → IsKind kind → IsOf kind (Words text) → length text ≤ 65535
-text_fits (Char limit) text is of = let le = within_by limit (without_end_spaces text) text (nat_le (length (without_end_spaces text)) limit) refl of.held in omega (arith, le)
-text_fits (Varchar limit) text is of = let le = within_by limit text text (nat_le (length text) limit) refl of.held in omega (arith, le)
-text_fits Small text is of = absurd (true≢false (sym of.goes))
-text_fits Int text is of = absurd (true≢false (sym of.goes))
-text_fits Big text is of = absurd (true≢false (sym of.goes))
-text_fits (Decimal precision scale) text is of = absurd (true≢false (sym of.goes))
-text_fits Date text is of = absurd (true≢false (sym of.goes))
-text_fits Boolean text is of = absurd (true≢false (sym of.goes))
 
 pub date_range : (n : ℤ) → FitsWidth 4 n → FitsSigned w32 n
 unfolding half

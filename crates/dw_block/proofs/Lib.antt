@@ -2,4 +2,9 @@ pub mod Standing
 pub mod Bounds
 pub mod Fit
 pub mod Present
+pub mod NullBits
+pub mod Places
+pub mod Forms
+pub mod SameBytes
 pub mod Reading
+pub mod Admitted

@@ -7,7 +7,7 @@ use Rattle.std.specs.Cmp.{IsTotalOrder, upto}
 use Rattle.dw_value.specs.declared.kinds.Comparison.{Comparison}
 use Rattle.dw_value.specs.declared.kinds.Comparison.TheVariants as test
 use Rattle.dw_value.specs.Values.{passes}
-use Rattle.dw_value.specs.SortedLaws.{turned}
+use Rattle.dw_value.proofs.SortedLaws.{turned}
 use Rattle.dw_block.specs.Zones.{may_hold}
 
 pub le_of : (r : Ordering) → is_gt r ≡ false → is_le r ≡ true
@@ -58,7 +58,7 @@ is_true true h = refl
 is_true false h = absurd (h refl)
 
 module _ {A : Type 0} {R : A → A → Ordering} (total : IsTotalOrder R) where
-  -- a isn't behind b
+  -- a isn't after b
   abbrev Upto : A → A → Type 0
   Upto a b = is_gt (R a b) ≡ false
 

@@ -30,8 +30,8 @@ abbrev pub has_steps : Kind → Bool
 has_steps Date = true
 has_steps kind = takes_numbers kind
 
--- whether a column of this kind may have the encoding: RAW and RUNLENGTH for all, BYTEDICT for all but truths, the others
--- where their short forms are shorter than the kind's numbers
+-- whether a column of this kind may have the encoding: RAW and RUNLENGTH for all, BYTEDICT for all but truths, the
+-- others where their short forms are shorter than the kind's numbers
 abbrev pub allows : Encoding → Kind → Bool
 allows Raw kind = true
 allows Bytedict Boolean = false
@@ -51,12 +51,12 @@ IsKind (Varchar limit) = limit ≤ 65535
 IsKind kind = Unit {0}
 
 -- the value is NULL, or one that a column of the kind holds, as it holds it
-pub record IsOf (kind : Kind) (value : Value) : Type 0 where
+pub record IsValueOf (kind : Kind) (value : Value) : Type 0 where
   pub goes : IsTrue (goes_with kind value)
   pub held : admitted kind value ≡ Ok value
 
 -- a text that a block may hold
-pub record IsStored (text : List ℕ) : Type 0 where
+pub record IsBlockText (text : List ℕ) : Type 0 where
   pub is : IsText text
   pub utf8 : IsUtf8 text
 
@@ -88,15 +88,15 @@ abbrev pub texts_of : List Value → List (List ℕ)
 texts_of values = filter_map text_in values
 
 -- the encoding of numbers
-abbrev pub encoded : Encoding → ℕ → List ℤ → List ℕ
-encoded Raw width = raw width
-encoded Bytedict width = bytedict width
-encoded Delta width = delta width 1
-encoded Delta32k width = delta width 2
-encoded Mostly8 width = mostly width 1
-encoded Mostly16 width = mostly width 2
-encoded Mostly32 width = mostly width 4
-encoded Runlength width = runlength width
+abbrev pub encoded_numbers : Encoding → ℕ → List ℤ → List ℕ
+encoded_numbers Raw width = raw width
+encoded_numbers Bytedict width = bytedict width
+encoded_numbers Delta width = delta width 1
+encoded_numbers Delta32k width = delta width 2
+encoded_numbers Mostly8 width = mostly width 1
+encoded_numbers Mostly16 width = mostly width 2
+encoded_numbers Mostly32 width = mostly width 4
+encoded_numbers Runlength width = runlength width
 
 -- the encoding of texts, which have no short forms of numbers
 abbrev pub encoded_texts : Encoding → List (List ℕ) → List ℕ
@@ -107,14 +107,15 @@ encoded_texts encoding = raw_texts
 -- the encoding of the values that aren't NULL
 abbrev pub items_bytes : Encoding → Kind → List Value → List ℕ
 items_bytes encoding kind values =
-    if takes_texts kind then encoded_texts encoding (texts_of values) else encoded encoding (width kind) (numbers_of values)
+    if takes_texts kind then encoded_texts encoding (texts_of values)
+    else encoded_numbers encoding (width kind) (numbers_of values)
 
 -- the bytes of a block: the null bits, and then these
 abbrev pub block_bytes : Encoding → Kind → List Value → List ℕ
 block_bytes encoding kind values = null_bits values ++ items_bytes encoding kind values
 
 -- what a block shows: how its values are spelled, of which kind they are, and they themselves
-pub record Shown : Type 0 where
+pub record BlockView : Type 0 where
   pub encoding : Encoding
   pub kind : Kind
   pub values : List Value

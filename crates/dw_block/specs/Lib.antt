@@ -1,9 +1,5 @@
-pub mod Zones
 pub mod Nulls
 pub mod Blocks
+pub mod Zones
 pub mod Stored
-pub mod NullBits
-pub mod Places
-pub mod Forms
 pub mod Unique
-pub mod Held

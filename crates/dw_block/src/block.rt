@@ -5,7 +5,7 @@ ghost use Rattle.dw_codec_plain.specs.Numbers.{IsWidth, FitsWidth};
 ghost use Rattle.dw_codec_plain.specs.Spelling.{IsSpelling};
 ghost use Rattle.dw_codec_plain.specs.Encodings.{IsText};
 ghost use Rattle.dw_block.specs.Zones.{zone_of};
-ghost use Rattle.dw_block.specs.Blocks.{width, allows, IsKind, IsOf, IsStored, encoded, encoded_texts, items_bytes, block_bytes};
+ghost use Rattle.dw_block.specs.Blocks.{width, allows, IsKind, IsValueOf, IsBlockText, encoded_numbers, encoded_texts, items_bytes, block_bytes};
 ghost use Rattle.dw_block.specs.Stored.{Content, IsSpelled};
 ghost use Rattle.dw_block.specs.Unique.{Content-prop};
 
@@ -21,8 +21,8 @@ use dw_value::{Encoding, Kind, List, Value};
 use std::alloc::{AllocError, Global};
 use std::marker::Model;
 
-/// The values of one column and up to 4,096 rows, in the encoding of the column. A block keeps their bytes alone, with the
-/// zone of the values. Contracts see it as its encoding, its kind and its values.
+/// The values of one column and up to 4,096 rows, in the encoding of the column. A block keeps their bytes alone, with
+/// the zone of the values. Contracts see it as its encoding, its kind and its values.
 #[derive(Drop)]
 pub struct Block {
     encoding: Encoding,
@@ -30,13 +30,13 @@ pub struct Block {
     count: u32,
     bytes: Vec<u8>,
     zone: Zone,
-    ghost content: { Content encoding kind count bytes.items zone } by { Content-prop encoding kind count bytes.items zone },
+    ghost content: { Content encoding kind count bytes.items zone } by { Content-prop encoding kind count _ zone },
 }
 
 impl Model for Block {
-    ghost use Rattle.dw_block.specs.Blocks.{Shown};
+    ghost use Rattle.dw_block.specs.Blocks.{BlockView};
 
-    ghost Value = { Shown };
+    ghost Value = { BlockView };
 
     ghost view = { λ block. record { encoding = block.encoding; kind = block.kind; values = block.content.0 } };
 }
@@ -50,7 +50,7 @@ fn items_bytes(
 ) -> Result<Vec<u8>, AllocError>
     requires kind { IsKind kind }
     requires few { length values.now ≤ 4096 }
-    requires each { All (IsOf kind) values.now }
+    requires each { All (IsValueOf kind) values.now }
     ensures bytes { IfOk result (λ bytes. bytes.items ≡ items_bytes encoding kind values.now) }
     ensures spelled { OnOk result (IsSpelled kind values.now) }
 {
@@ -73,9 +73,10 @@ fn read_numbers(
 ) -> Result<Vec<i128>, AllocError>
     requires width { IsWidth width }
     requires count { count ≤ 4096 }
-    requires bytes { ∥ IsSpelling (encoded encoding width) (FitsWidth width) count bytes.now ∥₁ }
+    requires bytes { ∥ IsSpelling (encoded_numbers encoding width) (FitsWidth width) count bytes.now ∥₁ }
     ensures fit { IfOk result (λ numbers. All (FitsWidth width) numbers.items) }
-    ensures same { IfOk result (λ numbers. (others : Items ℤ) → length others ≤ 4096 → All (FitsWidth width) others → bytes.now ≡ encoded encoding width others → numbers.items ≡ others) }
+    ensures same { IfOk result (λ numbers. (others : Items ℤ) → length others ≤ 4096 → All (FitsWidth width) others →
+        bytes.now ≡ encoded_numbers encoding width others → numbers.items ≡ others) }
 {
     numbers_have_one_form();
     match decode(alloc, encoding, width, bytes, count) {
@@ -94,7 +95,8 @@ fn read_texts(
 ) -> Result<Vec<Bytes>, AllocError>
     requires count { count ≤ 4096 }
     requires bytes { ∥ IsSpelling (encoded_texts encoding) IsText count bytes.now ∥₁ }
-    ensures { IfOk result (λ texts. (others : Items (Items ℕ)) → length others ≤ 4096 → All IsText others → bytes.now ≡ encoded_texts encoding others → texts.items ≡ others) }
+    ensures { IfOk result (λ texts. (others : Items (Items ℕ)) → length others ≤ 4096 → All IsText others →
+        bytes.now ≡ encoded_texts encoding others → texts.items ≡ others) }
 {
     texts_have_one_form();
     match decode_texts(alloc, encoding, bytes, count) {
@@ -105,9 +107,9 @@ fn read_texts(
 }
 
 impl Block {
-    /// The block of the values, which stand as a column of the kind holds them, on memory of `alloc`. The kind has at most 38
-    /// digits or 65,535 bytes, and may have the encoding (see `allows`); there are at most 4,096 values. A zone's texts are
-    /// copied on the allocators of the values.
+    /// The block of the values, which stand as a column of the kind holds them, on memory of `alloc`. The kind has at
+    /// most 38 digits or 65,535 bytes, and may have the encoding (see `allows`); there are at most 4,096 values. A
+    /// zone's texts are copied on the allocators of the values.
     pub fn make(
         alloc: Global,
         encoding: Encoding,
@@ -117,7 +119,7 @@ impl Block {
         requires kind { IsKind kind }
         requires allowed { IsTrue (allows encoding kind) }
         requires few { length values.now ≤ 4096 }
-        requires each { All (IsOf kind) values.now }
+        requires each { All (IsValueOf kind) values.now }
         ensures encoding { IfOk result (λ block. block.encoding ≡ encoding) }
         ensures kind { IfOk result (λ block. block.kind ≡ kind) }
         ensures values { IfOk result (λ block. block.values ≡ values.now) }
@@ -136,8 +138,8 @@ impl Block {
         })
     }
 
-    /// The zone of the values: the least and the greatest of those that aren't NULL, in the order of values, and the number
-    /// of NULLs.
+    /// The zone of the values: the least and the greatest of those that aren't NULL, in the order of values, and the
+    /// number of NULLs.
     pub fn zone(&self) -> &Zone
         ensures { result.now ≡ zone_of self.now.values }
     {

@@ -4,7 +4,7 @@ ghost use Rattle.dw_value.specs.declared.kinds.Encoding.{Encoding as Spelling};
 ghost use Rattle.dw_codec_plain.specs.Numbers.{IsWidth, FitsWidth};
 ghost use Rattle.dw_codec_plain.specs.Spelling.{IsListOf, Explains};
 ghost use Rattle.dw_codec_plain.specs.Encodings.{IsText};
-ghost use Rattle.dw_block.specs.Blocks.{encoded, encoded_texts};
+ghost use Rattle.dw_block.specs.Blocks.{encoded_numbers, encoded_texts};
 
 use dw_codec_delta::{decode_delta, delta_has_one_form, encode_delta};
 use dw_codec_plain::laws::{mostly_has_one_form, raw_has_one_form, raw_texts_have_one_form};
@@ -31,7 +31,7 @@ pub fn encode(
     requires width { IsWidth width }
     requires count { length numbers.now ≤ 4096 }
     requires fit { All (FitsWidth width) numbers.now }
-    ensures { IfOk result (λ bytes. bytes.items ≡ encoded encoding width numbers.now) }
+    ensures { IfOk result (λ bytes. bytes.items ≡ encoded_numbers encoding width numbers.now) }
 {
     match encoding {
         Encoding::Delta => encode_delta(alloc, width, 1, numbers),
@@ -55,8 +55,10 @@ pub fn decode(
 ) -> Result<Vec<i128>, CodecFault>
     requires width { IsWidth width }
     requires count { count ≤ 4096 }
-    ensures values { IfOk result (λ numbers. IsListOf (FitsWidth width) count numbers.items × (bytes.now ≡ encoded encoding width numbers.items)) }
-    ensures fault { IfErr result (λ fault. Explains fault (encoded encoding width) (FitsWidth width) count bytes.now) }
+    ensures values { IfOk result (λ numbers.
+        IsListOf (FitsWidth width) count numbers.items × (bytes.now ≡ encoded_numbers encoding width numbers.items)) }
+    ensures fault { IfErr result (λ fault.
+        Explains fault (encoded_numbers encoding width) (FitsWidth width) count bytes.now) }
 {
     match encoding {
         Encoding::Delta => decode_delta(alloc, width, 1, bytes, count),
@@ -72,8 +74,9 @@ pub fn decode(
 
 /// Two lists of at most 4,096 numbers with one encoding are equal.
 pub fn numbers_have_one_form()
-    ensures { (encoding : Spelling) (width : ℕ) (numbers others : List ℤ) → IsWidth width → length numbers ≤ 4096 → length others ≤ 4096
-        → All (FitsWidth width) numbers → All (FitsWidth width) others → encoded encoding width numbers ≡ encoded encoding width others → numbers ≡ others }
+    ensures { (encoding : Spelling) (width : ℕ) (numbers others : List ℤ) → IsWidth width →
+        length numbers ≤ 4096 → length others ≤ 4096 → All (FitsWidth width) numbers → All (FitsWidth width) others →
+        encoded_numbers encoding width numbers ≡ encoded_numbers encoding width others → numbers ≡ others }
 {
     raw_has_one_form();
     mostly_has_one_form();
@@ -82,8 +85,8 @@ pub fn numbers_have_one_form()
     runlength_has_one_form();
 }
 
-/// The encoding of at most 4,096 texts of at most 65,535 bytes each. DELTA and MOSTLY, which no kind of texts may have, count
-/// as RAW.
+/// The encoding of at most 4,096 texts of at most 65,535 bytes each. DELTA and MOSTLY, which no kind of texts may have,
+/// count as RAW.
 pub fn encode_texts(
     alloc: Global,
     encoding: Encoding,
@@ -108,7 +111,8 @@ pub fn decode_texts(
     count: u32,
 ) -> Result<Vec<Bytes>, CodecFault>
     requires { count ≤ 4096 }
-    ensures values { IfOk result (λ texts. IsListOf IsText count texts.items × (bytes.now ≡ encoded_texts encoding texts.items)) }
+    ensures values { IfOk result (λ texts.
+        IsListOf IsText count texts.items × (bytes.now ≡ encoded_texts encoding texts.items)) }
     ensures fault { IfErr result (λ fault. Explains fault (encoded_texts encoding) IsText count bytes.now) }
 {
     match encoding {
@@ -120,8 +124,9 @@ pub fn decode_texts(
 
 /// Two lists of at most 4,096 texts with one encoding are equal.
 pub fn texts_have_one_form()
-    ensures { (encoding : Spelling) (texts others : List (List ℕ)) → length texts ≤ 4096 → length others ≤ 4096 → All IsText texts → All IsText others
-        → encoded_texts encoding texts ≡ encoded_texts encoding others → texts ≡ others }
+    ensures { (encoding : Spelling) (texts others : List (List ℕ)) → length texts ≤ 4096 → length others ≤ 4096 →
+        All IsText texts → All IsText others → encoded_texts encoding texts ≡ encoded_texts encoding others →
+        texts ≡ others }
 {
     raw_texts_have_one_form();
     bytedict_texts_have_one_form();

@@ -2,7 +2,7 @@
 ghost use Rattle.std.specs.Prelude.{◌≡◌, ◌≤◌, length, All, IfOk, IfSome};
 ghost use Rattle.dw_value.specs.Values.{takes_numbers, takes_texts};
 ghost use Rattle.dw_codec_plain.specs.Numbers.{IsWidth, FitsWidth};
-ghost use Rattle.dw_block.specs.Blocks.{width, has_steps, allows, IsKind, IsOf, IsStored, number_in, numbers_of, texts_of, value_of};
+ghost use Rattle.dw_block.specs.Blocks.{width, has_steps, allows, IsKind, IsValueOf, IsBlockText, number_in, numbers_of, texts_of, value_of};
 
 use dw_codec_plain::Bytes;
 use dw_value::{Encoding, Kind, Text, Value};
@@ -48,9 +48,9 @@ pub fn width(kind: Kind) -> u8
 }
 
 /// Whether a column of this kind may have the encoding, as the Amazon Redshift guide says it: RAW and RUNLENGTH for all
-/// kinds; BYTEDICT for all but BOOLEAN; DELTA for SMALLINT, INTEGER, BIGINT, DECIMAL and DATE, and DELTA32K for these but
-/// SMALLINT; MOSTLY8 for SMALLINT, INTEGER, BIGINT and DECIMAL, MOSTLY16 for these but SMALLINT, and MOSTLY32 for BIGINT and
-/// DECIMAL. It takes no memory.
+/// kinds; BYTEDICT for all but BOOLEAN; DELTA for SMALLINT, INTEGER, BIGINT, DECIMAL and DATE, and DELTA32K for these
+/// but SMALLINT; MOSTLY8 for SMALLINT, INTEGER, BIGINT and DECIMAL, MOSTLY16 for these but SMALLINT, and MOSTLY32 for
+/// BIGINT and DECIMAL. It takes no memory.
 pub fn allows(encoding: Encoding, kind: Kind) -> bool
     ensures { result ≡ allows encoding kind }
 {
@@ -68,7 +68,7 @@ pub fn allows(encoding: Encoding, kind: Kind) -> bool
 /// A value of the kind as a number, where it is one, a day or a truth.
 fn number_in(kind: Kind, value: &Value) -> Option<i128>
     requires kind { IsKind kind }
-    requires is { IsOf kind value.now }
+    requires is { IsValueOf kind value.now }
     ensures value { result ≡ number_in value.now }
     ensures fits { IfSome result (FitsWidth (width kind)) }
 {
@@ -84,7 +84,7 @@ fn number_in(kind: Kind, value: &Value) -> Option<i128>
 /// The numbers of the values that aren't NULL.
 pub fn numbers_of(alloc: Global, kind: Kind, values: &[Value]) -> Result<Vec<i128>, AllocError>
     requires kind { IsKind kind }
-    requires each { All (IsOf kind) values.now }
+    requires each { All (IsValueOf kind) values.now }
     ensures numbers { IfOk result (λ numbers. numbers.items ≡ numbers_of values.now) }
     ensures fit { IfOk result (λ numbers. All (FitsWidth (width kind)) numbers.items) }
     ensures few { IfOk result (λ numbers. length numbers.items ≤ length values.now) }
@@ -101,8 +101,8 @@ pub fn numbers_of(alloc: Global, kind: Kind, values: &[Value]) -> Result<Vec<i12
 /// The bytes of a text of the kind.
 fn bytes_of(alloc: Global, kind: Kind, text: &Text) -> Result<Bytes, AllocError>
     requires kind { IsKind kind }
-    requires is { IsOf kind (Value.Words text.now) }
-    ensures { IfOk result (λ bytes. (bytes ≡ text.now) × IsStored bytes) }
+    requires is { IsValueOf kind (Value.Words text.now) }
+    ensures { IfOk result (λ bytes. (bytes ≡ text.now) × IsBlockText bytes) }
 {
     let bytes = text.as_bytes();
     Bytes::from_slice(alloc, bytes)
@@ -111,9 +111,9 @@ fn bytes_of(alloc: Global, kind: Kind, text: &Text) -> Result<Bytes, AllocError>
 /// The texts of the values that aren't NULL.
 pub fn texts_of(alloc: Global, kind: Kind, values: &[Value]) -> Result<Vec<Bytes>, AllocError>
     requires kind { IsKind kind }
-    requires each { All (IsOf kind) values.now }
+    requires each { All (IsValueOf kind) values.now }
     ensures texts { IfOk result (λ texts. texts.items ≡ texts_of values.now) }
-    ensures stored { IfOk result (λ texts. All IsStored texts.items) }
+    ensures stored { IfOk result (λ texts. All IsBlockText texts.items) }
     ensures few { IfOk result (λ texts. length texts.items ≤ length values.now) }
 {
     let mut texts = Vec::new(alloc);

@@ -3,7 +3,7 @@ ghost use Rattle.std.specs.Prelude.{◌≡◌, ◌≤◌, ◌*◌, ℕ, ℤ, Lis
 ghost use Rattle.dw_value.specs.declared.values.Value.{Value as Item};
 ghost use Rattle.dw_value.specs.Values.{takes_texts};
 ghost use Rattle.dw_codec_plain.specs.Numbers.{FitsWidth};
-ghost use Rattle.dw_block.specs.Blocks.{width, IsStored, numbers_of, texts_of};
+ghost use Rattle.dw_block.specs.Blocks.{width, IsBlockText, numbers_of, texts_of};
 ghost use Rattle.dw_block.specs.Stored.{IsPlaced};
 
 use crate::kinds::value_of;
@@ -23,7 +23,8 @@ pub fn place_numbers(
     requires kind { takes_texts kind ≡ false }
     requires room { count ≤ 8 * length nulls.now }
     requires fit { All (FitsWidth (width kind)) numbers.now }
-    ensures { IfOk result (λ found. (values : Items Item) → IsPlaced numbers_of kind nulls.now numbers.now count values → found ≡ values) }
+    ensures { IfOk result (λ found. (values : Items Item) →
+        IsPlaced numbers_of kind nulls.now numbers.now count values → found ≡ values) }
 {
     let mut values = List::new(alloc);
     let mut next = 0;
@@ -43,7 +44,7 @@ pub fn place_numbers(
 
 /// A text of these bytes, which are UTF-8.
 fn text_of(alloc: Global, bytes: &Bytes) -> Result<Value, AllocError>
-    requires { IsStored bytes.now }
+    requires { IsBlockText bytes.now }
     ensures { IfOk result (λ value. value ≡ Value.Words bytes.now) }
 {
     match str::from_utf8(bytes.as_slice()) {
@@ -62,8 +63,9 @@ pub fn place_texts(
 ) -> Result<List<Value>, AllocError>
     requires kind { takes_texts kind ≡ true }
     requires room { count ≤ 8 * length nulls.now }
-    requires stored { All IsStored texts.now }
-    ensures { IfOk result (λ found. (values : Items Item) → IsPlaced texts_of kind nulls.now texts.now count values → found ≡ values) }
+    requires stored { All IsBlockText texts.now }
+    ensures { IfOk result (λ found. (values : Items Item) →
+        IsPlaced texts_of kind nulls.now texts.now count values → found ≡ values) }
 {
     let mut values = List::new(alloc);
     let mut next = 0;

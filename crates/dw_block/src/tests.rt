@@ -1,5 +1,6 @@
+//! Tests of blocks and of their zones.
 ghost use Rattle.std.specs.Prelude.{All, IfOk, IfSome};
-ghost use Rattle.dw_block.specs.Blocks.{IsKind, IsOf};
+ghost use Rattle.dw_block.specs.Blocks.{IsKind, IsValueOf};
 
 use super::*;
 use dw_value::{Comparison, Encoding, Kind, List, Text, Value, admit, goes_with};
@@ -9,7 +10,7 @@ use std::test::Fail;
 
 /// The value as a column of the kind holds it.
 fn held_one(kind: Kind, value: Value) -> Option<Value>
-    ensures { IfSome result (IsOf kind) }
+    ensures { IfSome result (IsValueOf kind) }
 {
     if !goes_with(kind, &value) {
         return None;
@@ -22,7 +23,7 @@ fn held_one(kind: Kind, value: Value) -> Option<Value>
 
 /// The values as a column of the kind holds them, without those that it can't hold.
 fn held(alloc: Global, kind: Kind, given: &[Value]) -> Result<List<Value>, AllocError>
-    ensures { IfOk result (λ held. All (IsOf kind) held) }
+    ensures { IfOk result (λ held. All (IsValueOf kind) held) }
 {
     let mut values = List::new(alloc);
     for value in given {

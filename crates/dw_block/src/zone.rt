@@ -24,7 +24,8 @@ pub struct Zone {
 /// One condition on a column's value.
 #[derive(Debug, Drop)]
 pub enum Test {
-    /// The column's value is compared with this one, which stands on the right side and is given at `scale`, from 0 to 37.
+    /// The column's value is compared with this one, which stands on the right side and is given at `scale`, from 0 to
+    /// 37.
     Compare {
         comparison: Comparison,
         value: Value,
@@ -138,10 +139,10 @@ fn may_hold(comparison: Comparison, least: Ordering, greatest: Ordering) -> bool
 }
 
 /// Whether some value of a block may pass the test, where this is the block's zone, and its column has the scale
-/// `zone_scale`, at most 37. False is exact: then no value passes. A comparison with NULL never matches; `=` matches where
-/// least <= value <= greatest, `<>` unless both equal it, `<` where least < value, `<=` where least <= value, `>` where
-/// greatest > value and `>=` where greatest >= value, numbers as exact numbers at their scales; none of them does where all
-/// values are NULL. IS NULL wants a NULL, IS NOT NULL another value. It takes no memory.
+/// `zone_scale`, at most 37. False is exact: then no value passes. A comparison with NULL never matches; `=` matches
+/// where least <= value <= greatest, `<>` unless both equal it, `<` where least < value, `<=` where least <= value, `>`
+/// where greatest > value and `>=` where greatest >= value, numbers as exact numbers at their scales; none of them does
+/// where all values are NULL. IS NULL wants a NULL, IS NOT NULL another value. It takes no memory.
 pub fn may_match(zone: &Zone, zone_scale: u8, test: &Test) -> bool
     requires zone_scale { zone_scale ≤ 37 }
     requires test_scale { HasScale test.now }

@@ -1,3 +1,4 @@
+//! Tests of DELTA and DELTA32K.
 ghost use Rattle.std.specs.Prelude.{All, IsTrue};
 ghost use Rattle.dw_codec_plain.specs.Numbers.{IsWidth, FitsWidth};
 ghost use Rattle.dw_codec_delta.specs.Delta.{IsDeltaStep};

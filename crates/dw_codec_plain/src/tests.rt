@@ -1,3 +1,4 @@
+//! Tests of RAW and MOSTLY, and of the numbers and texts they spell.
 ghost use Rattle.std.specs.Prelude.{◌≤◌, length, All, IsTrue};
 ghost use Rattle.dw_codec_plain.specs.Numbers.{IsWidth, FitsWidth};
 ghost use Rattle.dw_codec_plain.specs.Encodings.{IsMostlyStep};

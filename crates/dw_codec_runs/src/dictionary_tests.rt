@@ -1,3 +1,4 @@
+//! Tests of dictionaries.
 ghost use Rattle.std.specs.Prelude.{All, IsTrue};
 ghost use Rattle.dw_codec_plain.specs.Numbers.{IsWidth, FitsWidth};
 

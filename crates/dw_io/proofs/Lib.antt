@@ -1,3 +1,2 @@
-pub mod Counts
-pub mod Appends
+mod Appends
 mod FirstFile

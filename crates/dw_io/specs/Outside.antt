@@ -13,6 +13,6 @@ one_more count = min (count + 1) (2 ^ 64 - 1)
 abbrev pub Rose : ℕ → ℕ → Type 0
 Rose before now = min (before + 1) (2 ^ 64 - 1) ≤ now
 
--- what a sink has once it took `piece` behind what it had, where that is told
+-- what a sink has once it took `piece` after what it had, where that is told
 abbrev pub appended : Option (List ℕ) → List ℕ → Option (List ℕ)
 appended had piece = option_map (λ bytes. bytes ++ piece) had

@@ -14,7 +14,7 @@ mod whole;
 pub use host::{HostFiles, HostSink};
 pub use memory::{MemoryFiles, MemorySink};
 pub use outside::{FileFault, Files, Looked, Sink, SinkFault};
-pub use whole::{ReadStop, read_file, read_rest, write_whole};
+pub use whole::{ReadStop, read_file, write_whole};
 
 #[cfg(test)]
 mod tests;

@@ -23,7 +23,13 @@ impl Model for MemoryFiles {
 
     ghost Value = { MemoryOfFiles };
 
-    ghost view = { λ m. record { entries = m.files; left = left_of m.files m.current m.read; fails = m.calls.fails; calls = m.calls.made; faults = m.calls.faults } };
+    ghost view = { λ m. record {
+      entries = m.files;
+      left = left_of m.files m.current m.read;
+      fails = m.calls.fails;
+      calls = m.calls.made;
+      faults = m.calls.faults;
+    } };
 }
 
 impl MemoryFiles {
@@ -151,7 +157,12 @@ impl Model for MemorySink {
 
     ghost Value = { MemoryOfSink };
 
-    ghost view = { λ m. record { bytes = m.bytes.items; fails = m.calls.fails; calls = m.calls.made; faults = m.calls.faults } };
+    ghost view = { λ m. record {
+      bytes = m.bytes.items;
+      fails = m.calls.fails;
+      calls = m.calls.made;
+      faults = m.calls.faults;
+    } };
 }
 
 impl MemorySink {

@@ -1,3 +1,4 @@
+//! What the program knows of the files that it reads and of the sink that it writes to.
 ghost use Rattle.std.specs.Prelude.{◌≡◌, ℕ, ◌<◌, ◌≤◌, List, [], ◌++◌, length, take, Option, IsSome, IfOk, OnErr};
 ghost use Rattle.dw_io.specs.Outside.{Held, Rose, appended};
 
@@ -37,7 +38,8 @@ pub trait Files {
         ensures keeps { held self.new ≡ held self.old }
         ensures count { faults self.old ≤ faults self.new }
         ensures fault { OnErr result (Rose (faults self.old) (faults self.new)) }
-        ensures found { (h : Held) → held self.old ≡ Some h → result ≡ Ok Looked.Found → h name.now ≡ Some (left self.new) }
+        ensures found { (h : Held) → held self.old ≡ Some h → result ≡ Ok Looked.Found →
+            h name.now ≡ Some (left self.new) }
         ensures absent { (h : Held) → held self.old ≡ Some h → result ≡ Ok Looked.Absent → h name.now ≡ None }
         ensures nothing { IsSome (held self.old) → result ≡ Ok Looked.Absent → left self.new ≡ [] }
         ensures stands { IsSome (held self.old) → OnErr result (left self.new ≡ left self.old) };

@@ -1,7 +1,9 @@
+//! Tests of files and sinks in memory.
 use super::{
     FileFault, Files, HostFiles, HostSink, Looked, MemoryFiles, MemorySink, ReadStop, Sink,
-    SinkFault, read_file, read_rest, write_whole,
+    SinkFault, read_file, write_whole,
 };
+use crate::whole::read_rest;
 use dw_value::{List, Text};
 use std::alloc::{AllocError, Global};
 use std::fmt::Display;

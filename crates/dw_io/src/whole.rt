@@ -42,7 +42,8 @@ pub fn read_file<F: Files>(
     ensures fault { result ≡ Err ReadStop.Fault → Rose (F.faults files.old) (F.faults files.new) }
     ensures within { IfOk result (λ found. IfSome found (λ bytes. length bytes ≤ limit)) }
     ensures whole { (h : Held) → F.held files.old ≡ Some h → IfOk result (λ found. found ≡ h name.now) }
-    ensures too_long { (h : Held) → F.held files.old ≡ Some h → result ≡ Err ReadStop.TooLong → IsSomeAnd (h name.now) (λ bytes. limit < length bytes) }
+    ensures too_long { (h : Held) → F.held files.old ≡ Some h → result ≡ Err ReadStop.TooLong →
+        IsSomeAnd (h name.now) (λ bytes. limit < length bytes) }
 {
     match files.look(name) {
         Ok(Looked::Found) => Ok(Some(read_rest(alloc, files, limit)?)),
@@ -52,7 +53,11 @@ pub fn read_file<F: Files>(
 }
 
 /// Reads the rest of the current file, of at most `limit` bytes.
-pub fn read_rest<F: Files>(alloc: Global, files: &mut F, limit: usize) -> Result<List<u8>, ReadStop>
+pub(crate) fn read_rest<F: Files>(
+    alloc: Global,
+    files: &mut F,
+    limit: usize,
+) -> Result<List<u8>, ReadStop>
     ensures keeps { F.held files.new ≡ F.held files.old }
     ensures count { F.faults files.old ≤ F.faults files.new }
     ensures fault { result ≡ Err ReadStop.Fault → Rose (F.faults files.old) (F.faults files.new) }
@@ -82,7 +87,8 @@ pub fn write_whole<S: Sink>(sink: &mut S, bytes: &[u8]) -> Result<(), SinkFault>
     ensures count { S.faults sink.old ≤ S.faults sink.new }
     ensures fault { OnErr result (Rose (S.faults sink.old) (S.faults sink.new)) }
     ensures whole { OnOk result (S.has sink.new ≡ appended (S.has sink.old) bytes.now) }
-    ensures part { OnErr result ((n : ℕ) × (n < length bytes.now) × (S.has sink.new ≡ appended (S.has sink.old) (take n bytes.now))) }
+    ensures part { OnErr result ((n : ℕ) ×
+        (n < length bytes.now) × (S.has sink.new ≡ appended (S.has sink.old) (take n bytes.now))) }
 {
     let mut written = 0;
     while written < bytes.len() {

@@ -16,7 +16,7 @@ use Rattle.dw_lex.specs.declared.token.Form.{Form}
 use Rattle.dw_lex.specs.declared.token.Form.TheVariants.{Name, Number, Words, Sign}
 use Rattle.dw_lex.proofs.ReadLemmas.{prefix_takes, prefix_ends}
 use Rattle.dw_lex.proofs.SpellingLemmas.{prefix_len-whole, fails}
-use Rattle.dw_lex.proofs.Utf8Lemmas.{IsUtf8-front, IsUtf8-behind}
+use Rattle.dw_lex.proofs.Utf8Lemmas.{IsUtf8-front, IsUtf8-rest}
 
 -- a byte that ends no line
 abbrev in_line : ℕ → Bool
@@ -234,7 +234,7 @@ token_no_gap Number word rest h = number_no_gap word rest h
 token_no_gap Words word rest h = words_no_gap word rest h
 token_no_gap (Sign sign) word rest h = sign_no_gap sign word rest h
 
--- a comment in UTF-8 has UTF-8 behind it
+-- a comment in UTF-8 has UTF-8 after it
 nothing_utf8 : IsUtf8 []
 nothing_utf8 = IsUtf8-from_ascii [] IsAscii-nil
 
@@ -245,30 +245,30 @@ line_utf8 word (b ∷ bs) at_end u =
     let small : b < 128 = omega arith in
     let front = IsUtf8-front word bs b small u in
     let joined : (word ++ b ∷ []) ++ bs ≡ word ++ b ∷ bs = append_assoc word (b ∷ []) bs in
-    let behind = IsUtf8-behind (word ++ b ∷ []) bs front (subst IsUtf8 (sym joined) u) in
-    IsUtf8-append (b ∷ []) bs (IsUtf8-from_ascii (b ∷ []) (IsAscii-cons b [] small IsAscii-nil)) behind
+    let tail = IsUtf8-rest (word ++ b ∷ []) bs front (subst IsUtf8 (sym joined) u) in
+    IsUtf8-append (b ∷ []) bs (IsUtf8-from_ascii (b ∷ []) (IsAscii-cons b [] small IsAscii-nil)) tail
 
 abbrev EndsInSlash : List ℕ → Type 0
 EndsInSlash bytes = (front : List ℕ) × (bytes ≡ front ++ slash ∷ [])
 
-behind_byte : (b : ℕ) (bytes : List ℕ) → EndsInSlash bytes → EndsInSlash (b ∷ bytes)
-behind_byte b bytes h = (b ∷ h.0, ap (λ (xs : List ℕ). b ∷ xs) h.1)
+after_byte : (b : ℕ) (bytes : List ℕ) → EndsInSlash bytes → EndsInSlash (b ∷ bytes)
+after_byte b bytes h = (b ∷ h.0, ap (λ (xs : List ℕ). b ∷ xs) h.1)
 
 last_end : (bytes : List ℕ) → EndsBlocks 0 bytes → EndsInSlash (star ∷ slash ∷ bytes)
 last_end bytes all_ended = (star ∷ [], refl)
 
 block_last : (blocks : ℕ) (bytes : List ℕ) → EndsBlocks (suc blocks) bytes → EndsInSlash bytes
 block_last zero bytes (ends blocks₂ rest more) = last_end rest more
-block_last (suc blocks) bytes (ends blocks₂ rest more) = behind_byte star (slash ∷ rest) (behind_byte slash rest (block_last blocks rest more))
-block_last blocks bytes (opens blocks₂ rest more) = behind_byte slash (star ∷ rest) (behind_byte star rest (block_last (suc blocks) rest more))
-block_last blocks bytes (other blocks₂ b c rest plain more) = behind_byte b (c ∷ rest) (block_last blocks (c ∷ rest) more)
+block_last (suc blocks) bytes (ends blocks₂ rest more) = after_byte star (slash ∷ rest) (after_byte slash rest (block_last blocks rest more))
+block_last blocks bytes (opens blocks₂ rest more) = after_byte slash (star ∷ rest) (after_byte star rest (block_last (suc blocks) rest more))
+block_last blocks bytes (other blocks₂ b c rest plain more) = after_byte b (c ∷ rest) (block_last blocks (c ∷ rest) more)
 
 block_utf8 : (word rest : List ℕ) → EndsInSlash word → IsUtf8 (word ++ rest) → IsUtf8 rest
 block_utf8 word rest last u =
     let joined : word ++ rest ≡ last.0 ++ slash ∷ rest = ap (λ (w : List ℕ). w ++ rest) last.1 ∙ append_assoc last.0 (slash ∷ []) rest in
     let front : IsUtf8 (last.0 ++ slash ∷ []) = IsUtf8-front last.0 rest slash (omega arith) (subst IsUtf8 joined u) in
-    IsUtf8-behind word rest (subst IsUtf8 (sym last.1) front) u
+    IsUtf8-rest word rest (subst IsUtf8 (sym last.1) front) u
 
 pub comment_utf8 : (word rest : List ℕ) → IsComment word rest → IsUtf8 (word ++ rest) → IsUtf8 rest
 comment_utf8 word rest (line inside rest₂ one at_end) u = line_utf8 (dash ∷ dash ∷ inside) rest at_end u
-comment_utf8 word rest (block inside rest₂ closes) u = block_utf8 (slash ∷ star ∷ inside) rest (behind_byte slash (star ∷ inside) (behind_byte star inside (block_last 0 inside closes))) u
+comment_utf8 word rest (block inside rest₂ closes) u = block_utf8 (slash ∷ star ∷ inside) rest (after_byte slash (star ∷ inside) (after_byte star inside (block_last 0 inside closes))) u

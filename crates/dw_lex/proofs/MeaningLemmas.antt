@@ -12,7 +12,7 @@ use Rattle.std.proofs.lemmas.Str.Parse.{IsNumeralModel, numerals_by_value, parse
 use Rattle.std.proofs.lemmas.List.{take_at, length-append}
 use Rattle.std.proofs.Math.Seq.{get_or-append_seam, drop-append-add}
 use Rattle.dw_lex.specs.Characters.{quote}
-use Rattle.dw_lex.specs.Meaning.{said_behind, said_by, number_of_digits}
+use Rattle.dw_lex.specs.Meaning.{said_after, said_by, number_of_digits}
 
 -- a text stays UTF-8 without one of its ASCII characters
 IsUtf8-without : (xs bs : List ℕ) (b : ℕ) → b < 128 → IsUtf8 (xs ++ b ∷ bs) → IsUtf8 (xs ++ bs)
@@ -27,33 +27,33 @@ IsUtf8-without xs bs b small u =
     let dropped : drop (length xs + 1) whole ≡ bs = drop-append-add xs (b ∷ bs) 1 in
     IsUtf8-append xs bs (subst IsUtf8 taken front) (subst IsUtf8 dropped back)
 
--- one byte of a text, by what is said behind it
-said_behind-byte : (xs bs : List ℕ) (b : ℕ) (pending is_quote : Bool) → eqb b quote ≡ is_quote → IsUtf8 (xs ++ b ∷ said_behind bs false)
-    → (is_quote ≡ true → IsUtf8 (xs ++ said_behind bs true)) → IsUtf8 (xs ++ said_behind (b ∷ bs) pending)
-said_behind-byte xs bs b true true e kept left = rw e kept
-said_behind-byte xs bs b false true e kept left = rw e (left refl)
-said_behind-byte xs bs b pending false e kept left = rw e kept
+-- one byte of a text, by what is said after it
+said_after-byte : (xs bs : List ℕ) (b : ℕ) (pending is_quote : Bool) → eqb b quote ≡ is_quote → IsUtf8 (xs ++ b ∷ said_after bs false)
+    → (is_quote ≡ true → IsUtf8 (xs ++ said_after bs true)) → IsUtf8 (xs ++ said_after (b ∷ bs) pending)
+said_after-byte xs bs b true true e kept left = rw e kept
+said_after-byte xs bs b false true e kept left = rw e (left refl)
+said_after-byte xs bs b pending false e kept left = rw e kept
 
 quote_is_ascii : (b : ℕ) → eqb b quote ≡ true → b < 128
 quote_is_ascii b e = grind (arith, nat_tests)
 
-IsUtf8-said_behind : (xs bs : List ℕ) (pending : Bool) → IsUtf8 (xs ++ bs) → IsUtf8 (xs ++ said_behind bs pending)
-IsUtf8-said_behind xs [] pending u = u
-IsUtf8-said_behind xs (b ∷ bs) pending u =
-    said_behind-byte xs bs b pending (eqb b quote) refl
-    (rw append_assoc at (IsUtf8-said_behind (xs ++ b ∷ []) bs false (rw append_assoc u)))
-    (λ e. IsUtf8-said_behind xs bs true (IsUtf8-without xs bs b (quote_is_ascii b e) u))
+IsUtf8-said_after : (xs bs : List ℕ) (pending : Bool) → IsUtf8 (xs ++ bs) → IsUtf8 (xs ++ said_after bs pending)
+IsUtf8-said_after xs [] pending u = u
+IsUtf8-said_after xs (b ∷ bs) pending u =
+    said_after-byte xs bs b pending (eqb b quote) refl
+    (rw append_assoc at (IsUtf8-said_after (xs ++ b ∷ []) bs false (rw append_assoc u)))
+    (λ e. IsUtf8-said_after xs bs true (IsUtf8-without xs bs b (quote_is_ascii b e) u))
 
-said_by-byte : (bs : List ℕ) (b : ℕ) (is_quote : Bool) → eqb b quote ≡ is_quote → IsUtf8 (said_behind (b ∷ bs) false)
-    → (is_quote ≡ true → IsUtf8 (said_behind bs false)) → IsUtf8 (said_by (b ∷ bs))
+said_by-byte : (bs : List ℕ) (b : ℕ) (is_quote : Bool) → eqb b quote ≡ is_quote → IsUtf8 (said_after (b ∷ bs) false)
+    → (is_quote ≡ true → IsUtf8 (said_after bs false)) → IsUtf8 (said_by (b ∷ bs))
 said_by-byte bs b true e kept left = rw e (left refl)
 said_by-byte bs b false e kept left = rw e (rw e at kept)
 
 pub IsUtf8-said_by : (bs : List ℕ) → IsUtf8 bs → IsUtf8 (said_by bs)
 IsUtf8-said_by [] u = u
 IsUtf8-said_by (b ∷ bs) u =
-    said_by-byte bs b (eqb b quote) refl (IsUtf8-said_behind [] (b ∷ bs) false u)
-    (λ e. IsUtf8-said_behind [] bs false (IsUtf8-without [] bs b (quote_is_ascii b e) u))
+    said_by-byte bs b (eqb b quote) refl (IsUtf8-said_after [] (b ∷ bs) false u)
+    (λ e. IsUtf8-said_after [] bs false (IsUtf8-without [] bs b (quote_is_ascii b e) u))
 
 digits : IsNumeralModel (λ ds. list_all is_ascii_digit ds ≡ true) (digits_value 10)
 digits = numerals_by_value _ (search rules)

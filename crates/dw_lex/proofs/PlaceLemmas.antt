@@ -1,4 +1,4 @@
--- Tokens in order, and one more blank, comment or token behind them.
+-- Tokens in order, and one more blank, comment or token after them.
 use Rattle.std.proofs.Common.{◌≡◌, ℕ, ◌+◌, ◌-◌, ◌<◌, ◌≤◌, List, [], ◌∷◌, ◌++◌, take, drop, take-add, sym, ap, ◌∙◌, subst, append_assoc, arith}
 use Rattle.std.specs.List.{slice_range}
 use Rattle.std.proofs.lemmas.List.{drop-drop, take-append-drop}
@@ -7,13 +7,13 @@ use Rattle.dw_lex.specs.Places.{IsGapBetween, IsSlice, AreInOrder}
 use Rattle.dw_lex.specs.declared.token.Token.{Token}
 use Rattle.dw_lex.proofs.GapLemmas.{gap_front}
 
-gap-append : (first behind gap rest : List ℕ) → IsGap first behind → behind ≡ gap ++ rest → IsGap gap rest → IsGap (first ++ gap) rest
-gap-append first behind gap rest (nothing behind₂) joined more = more
-gap-append first behind gap rest (blank b others behind₂ is h) joined more = blank b (others ++ gap) rest is (gap-append others behind gap rest h joined more)
-gap-append first behind gap rest (comment word others behind₂ is h) joined more =
-    let onward : others ++ behind ≡ (others ++ gap) ++ rest = ap (λ (xs : List ℕ). others ++ xs) joined ∙ sym (append_assoc others gap rest) in
+gap-append : (first tail gap rest : List ℕ) → IsGap first tail → tail ≡ gap ++ rest → IsGap gap rest → IsGap (first ++ gap) rest
+gap-append first tail gap rest (nothing tail₂) joined more = more
+gap-append first tail gap rest (blank b others tail₂ is h) joined more = blank b (others ++ gap) rest is (gap-append others tail gap rest h joined more)
+gap-append first tail gap rest (comment word others tail₂ is h) joined more =
+    let onward : others ++ tail ≡ (others ++ gap) ++ rest = ap (λ (xs : List ℕ). others ++ xs) joined ∙ sym (append_assoc others gap rest) in
     subst (λ (all : List ℕ). IsGap all rest) (sym (append_assoc word others gap))
-    (comment word (others ++ gap) rest (subst (IsComment word) onward is) (gap-append others behind gap rest h joined more))
+    (comment word (others ++ gap) rest (subst (IsComment word) onward is) (gap-append others tail gap rest h joined more))
 
 slice-more : (text : List ℕ) (from at n : ℕ) → from ≤ at → slice_range text from (at + n) ≡ slice_range text from at ++ take n (drop at text)
 slice-more text from at n le =
@@ -27,9 +27,9 @@ between-more : (text : List ℕ) (from at : ℕ) → from ≤ at → 0 < gap_at 
 between-more text from at le some so_far =
     let n : ℕ = gap_at (drop at text) in
     let rest : List ℕ = drop (at + n) text in
-    let behind : drop n (drop at text) ≡ rest = drop-drop n at text in
-    let gap : IsGap (take n (drop at text)) rest = subst (IsGap (take n (drop at text))) behind (gap_front (drop at text) some) in
-    let joined : drop at text ≡ take n (drop at text) ++ rest = sym (take-append-drop n (drop at text)) ∙ ap (λ (r : List ℕ). take n (drop at text) ++ r) behind in
+    let tail : drop n (drop at text) ≡ rest = drop-drop n at text in
+    let gap : IsGap (take n (drop at text)) rest = subst (IsGap (take n (drop at text))) tail (gap_front (drop at text) some) in
+    let joined : drop at text ≡ take n (drop at text) ++ rest = sym (take-append-drop n (drop at text)) ∙ ap (λ (r : List ℕ). take n (drop at text) ++ r) tail in
     let both = gap-append (slice_range text from at) (drop at text) (take n (drop at text)) rest so_far joined gap in
     subst (λ (all : List ℕ). IsGap all rest) (sym (slice-more text from at n le)) both
 

@@ -10,7 +10,7 @@ use Rattle.std.proofs.lemmas.List.{length-take, length-append, drop-drop, take-a
 use Rattle.std.proofs.lemmas.List.Sums.{prefix_len-le-length}
 use Rattle.dw_lex.specs.Characters.{begins_name, is_in_name, quote, point, begins_comment}
 use Rattle.dw_lex.specs.Signs.{sign_of_one, sign_of_two}
-use Rattle.dw_lex.specs.Forms.{Found, name_at, digits_at, fraction_at, number_at, text_end, words_at, longer_sign, sign_at, form_at, in_utf8, token_at}
+use Rattle.dw_lex.specs.Forms.{SizedForm, name_at, digits_at, fraction_at, number_at, text_end, words_at, longer_sign, sign_at, form_at, in_utf8, token_at}
 use Rattle.dw_lex.specs.Spelling.{EndsAt, IsDigits, IsNumber, whole, decimal, IsInside, nothing, other, quotes, text, IsToken}
 use Rattle.dw_lex.specs.declared.signs.Sign.{Sign as Mark}
 use Rattle.dw_lex.specs.declared.token.Form.{Form}
@@ -41,10 +41,10 @@ prefix_ends test [] = tt
 prefix_ends test (x ∷ xs) = ends-first test x xs (test x) refl (prefix_ends test xs)
 
 -- the front of so many bytes is a token of the form
-abbrev Spelled : List ℕ → Found → Type 0
+abbrev Spelled : List ℕ → SizedForm → Type 0
 Spelled bytes found = IsToken found.0 (take found.1 bytes) (drop found.1 bytes)
 
-name_spelled : (b : ℕ) (bs : List ℕ) (found : Found) → begins_name b ≡ true → name_at (b ∷ bs) ≡ Some found → Spelled (b ∷ bs) found
+name_spelled : (b : ℕ) (bs : List ℕ) (found : SizedForm) → begins_name b ≡ true → name_at (b ∷ bs) ≡ Some found → Spelled (b ∷ bs) found
 name_spelled b bs found begins e =
     let m : ℕ = prefix_len is_in_name bs in
     let long : prefix_len is_in_name (b ∷ bs) ≡ suc m = rw begins (omega arith) in
@@ -62,16 +62,16 @@ IsDigits-front : (bytes : List ℕ) → 0 < digits_at bytes → IsDigits (take (
 IsDigits-front bytes some =
     IsDigits-from (take (digits_at bytes) bytes) (omega (arith, length-take (digits_at bytes) bytes, prefix_len-le-length is_ascii_digit bytes)) (prefix_takes is_ascii_digit bytes)
 
--- a fraction stands behind a point
-behind_point : (b : ℕ) (bs : List ℕ) (t : Bool) → eqb b point ≡ t → 0 < cond t (digits_at bs) 0 → (more : List ℕ) × (b ∷ bs ≡ point ∷ more) × (fraction_at (b ∷ bs) ≡ digits_at more)
-behind_point b bs true e some = (bs, ap (λ (x : ℕ). x ∷ bs) (eqb-true b point e), rw e refl)
-behind_point b bs false e some = absurd (omega arith)
+-- a fraction stands after a point
+after_point : (b : ℕ) (bs : List ℕ) (t : Bool) → eqb b point ≡ t → 0 < cond t (digits_at bs) 0 → (more : List ℕ) × (b ∷ bs ≡ point ∷ more) × (fraction_at (b ∷ bs) ≡ digits_at more)
+after_point b bs true e some = (bs, ap (λ (x : ℕ). x ∷ bs) (eqb-true b point e), rw e refl)
+after_point b bs false e some = absurd (omega arith)
 
-fraction_behind : (tail : List ℕ) → 0 < fraction_at tail → (more : List ℕ) × (tail ≡ point ∷ more) × (fraction_at tail ≡ digits_at more)
-fraction_behind [] some = absurd (omega arith)
-fraction_behind (b ∷ bs) some = behind_point b bs (eqb b point) refl some
+fraction_after : (tail : List ℕ) → 0 < fraction_at tail → (more : List ℕ) × (tail ≡ point ∷ more) × (fraction_at tail ≡ digits_at more)
+fraction_after [] some = absurd (omega arith)
+fraction_after (b ∷ bs) some = after_point b bs (eqb b point) refl some
 
--- the bytes before the point and behind it, where the number has both
+-- the bytes before the point and after it, where the number has both
 decimal_spelled : (bytes more : List ℕ) → 0 < digits_at bytes → 0 < digits_at more → digits_at bytes + digits_at more ≤ 38 → drop (digits_at bytes) bytes ≡ point ∷ more
     → Spelled bytes (Number, digits_at bytes + 1 + digits_at more)
 decimal_spelled bytes more some fraction small e =
@@ -98,14 +98,14 @@ number_long bytes true e some small =
     whole_spelled bytes some (omega arith) none
 number_long bytes false e some small =
     let there : 0 < fraction_at (drop (digits_at bytes) bytes) = some_from (fraction_at (drop (digits_at bytes) bytes)) (eqb-false (fraction_at (drop (digits_at bytes) bytes)) 0 e) in
-    let f = fraction_behind (drop (digits_at bytes) bytes) there in
+    let f = fraction_after (drop (digits_at bytes) bytes) there in
     rw f.2 (decimal_spelled bytes f.0 some (omega (arith, f.2)) (omega (arith, f.2)) f.1)
   where
     some_from : (n : ℕ) → (n ≡ 0 → ⊥) → 0 < n
     some_from zero none = absurd (none refl)
     some_from (suc n) none = omega arith
 
-number_spelled : (b : ℕ) (bs : List ℕ) (found : Found) → is_ascii_digit b ≡ true → number_at (b ∷ bs) ≡ Some found → Spelled (b ∷ bs) found
+number_spelled : (b : ℕ) (bs : List ℕ) (found : SizedForm) → is_ascii_digit b ≡ true → number_at (b ∷ bs) ≡ Some found → Spelled (b ∷ bs) found
 number_spelled b bs found first e =
     let bytes : List ℕ = b ∷ bs in
     let w : ℕ = digits_at bytes in
@@ -122,15 +122,15 @@ abbrev Pending : Bool → List ℕ → ℕ → ℕ → Type 0
 Pending false bs passed n = GoesOn bs passed n
 Pending true bs passed n = ((n ≡ passed) × EndsAt (λ b. eqb b quote) bs) ⊎ ((more : List ℕ) × (bs ≡ quote ∷ more) × GoesOn more (passed + 1) n)
 
-behind_quote : (bs : List ℕ) (passed n : ℕ) → Pending true bs (passed + 1) n → GoesOn (quote ∷ bs) passed n
-behind_quote bs passed n (inl h) = ([], bs, refl, nothing, h.1, omega arith)
-behind_quote bs passed n (inr h) =
+after_quote : (bs : List ℕ) (passed n : ℕ) → Pending true bs (passed + 1) n → GoesOn (quote ∷ bs) passed n
+after_quote bs passed n (inl h) = ([], bs, refl, nothing, h.1, omega arith)
+after_quote bs passed n (inr h) =
     let g = h.2 in
     let joined : quote ∷ bs ≡ (quote ∷ quote ∷ g.0) ++ quote ∷ g.1 = ap (λ (xs : List ℕ). quote ∷ xs) (h.1 ∙ ap (λ (xs : List ℕ). quote ∷ xs) g.2) in
     (quote ∷ quote ∷ g.0, g.1, joined, quotes g.0 g.3, g.4, omega (arith, g.5))
 
-behind_other : (b : ℕ) (bs : List ℕ) (passed n : ℕ) → eqb b quote ≡ false → GoesOn bs (passed + 1) n → GoesOn (b ∷ bs) passed n
-behind_other b bs passed n e g =
+after_other : (b : ℕ) (bs : List ℕ) (passed n : ℕ) → eqb b quote ≡ false → GoesOn bs (passed + 1) n → GoesOn (b ∷ bs) passed n
+after_other b bs passed n e g =
     (b ∷ g.0, g.1, ap (λ (xs : List ℕ). b ∷ xs) g.2, other b g.0 e g.3, g.4, omega (arith, g.5))
 
 text_byte : (b : ℕ) (bs : List ℕ) (pending : Bool) (passed n : ℕ) (t : Bool) → eqb b quote ≡ t → text_end (b ∷ bs) pending passed ≡ Some n
@@ -140,16 +140,16 @@ text_byte b bs true passed n true e h more =
     inr (bs, ap (λ (x : ℕ). x ∷ bs) same, more false (rw e at h))
 text_byte b bs false passed n true e h more =
     let same = eqb-true b quote e in
-    rw same (behind_quote bs passed n (more true (rw e at h)))
+    rw same (after_quote bs passed n (more true (rw e at h)))
 text_byte b bs true passed n false e h more = let k = rw e at h in inl (cc, e)
-text_byte b bs false passed n false e h more = behind_other b bs passed n e (more false (rw e at h))
+text_byte b bs false passed n false e h more = after_other b bs passed n e (more false (rw e at h))
 
 text_spelled : (bs : List ℕ) (pending : Bool) (passed n : ℕ) → text_end bs pending passed ≡ Some n → Pending pending bs passed n
 text_spelled [] true passed n h = inl (cc, tt)
 text_spelled [] false passed n h = cc
 text_spelled (b ∷ bs) pending passed n h = text_byte b bs pending passed n (eqb b quote) refl h (λ next k. text_spelled bs next (passed + 1) n k)
 
-words_long : (bs : List ℕ) (found : Found) (end : Option ℕ) → text_end bs false 1 ≡ end → option_map (λ long. (Words, long)) end ≡ Some found → Spelled (quote ∷ bs) found
+words_long : (bs : List ℕ) (found : SizedForm) (end : Option ℕ) → text_end bs false 1 ≡ end → option_map (λ long. (Words, long)) end ≡ Some found → Spelled (quote ∷ bs) found
 words_long bs found None h e = cc
 words_long bs found (Some n) h e =
     let g = text_spelled bs false 1 n h in
@@ -162,20 +162,20 @@ words_long bs found (Some n) h e =
     let back : drop n (word ++ rest) ≡ rest = drop_at word rest n long in
     let own : Spelled (word ++ rest) (Words, n) = rw (front, back) (text inside rest g.3 g.4) in
     let there : Spelled (quote ∷ bs) (Words, n) = rw joined own in
-    let same : ◌≡◌ {A = Found} (Words, n) found = cc in
+    let same : ◌≡◌ {A = SizedForm} (Words, n) found = cc in
     subst (Spelled (quote ∷ bs)) same there
 
-one_spelled : (bytes : List ℕ) (found : Found) (one : Option Mark) → ((sign : Mark) → one ≡ Some sign → Spelled bytes (Sign sign, 1)) → option_map (λ sign. (Sign sign, 1)) one ≡ Some found → Spelled bytes found
+one_spelled : (bytes : List ℕ) (found : SizedForm) (one : Option Mark) → ((sign : Mark) → one ≡ Some sign → Spelled bytes (Sign sign, 1)) → option_map (λ sign. (Sign sign, 1)) one ≡ Some found → Spelled bytes found
 one_spelled bytes found None own e = cc
 one_spelled bytes found (Some sign) own e =
     let there = own sign refl in
-    let same : ◌≡◌ {A = Found} (Sign sign, 1) found = cc in
+    let same : ◌≡◌ {A = SizedForm} (Sign sign, 1) found = cc in
     subst (Spelled bytes) same there
 
-two_spelled : (b c : ℕ) (bs : List ℕ) (found : Found) (two : Option Mark) → sign_of_two b c ≡ two → begins_comment b c ≡ false → longer_sign two (sign_of_one b) ≡ Some found → Spelled (b ∷ c ∷ bs) found
+two_spelled : (b c : ℕ) (bs : List ℕ) (found : SizedForm) (two : Option Mark) → sign_of_two b c ≡ two → begins_comment b c ≡ false → longer_sign two (sign_of_one b) ≡ Some found → Spelled (b ∷ c ∷ bs) found
 two_spelled b c bs found (Some sign) h plain e =
     let there : Spelled (b ∷ c ∷ bs) (Sign sign, 2) = h in
-    let same : ◌≡◌ {A = Found} (Sign sign, 2) found = cc in
+    let same : ◌≡◌ {A = SizedForm} (Sign sign, 2) found = cc in
     subst (Spelled (b ∷ c ∷ bs)) same there
 two_spelled b c bs found None h plain e = one_spelled (b ∷ c ∷ bs) found (sign_of_one b) (λ sign k. (k, h, plain)) e
 
@@ -183,13 +183,13 @@ unless : {A : Type 0} (t : Bool) (x : Option A) (y : A) → cond t None x ≡ So
 unless true x y e = cc
 unless false x y e = (refl, e)
 
-sign_spelled : (b : ℕ) (bs : List ℕ) (found : Found) → sign_at (b ∷ bs) ≡ Some found → Spelled (b ∷ bs) found
+sign_spelled : (b : ℕ) (bs : List ℕ) (found : SizedForm) → sign_at (b ∷ bs) ≡ Some found → Spelled (b ∷ bs) found
 sign_spelled b [] found e = one_spelled (b ∷ []) found (sign_of_one b) (λ sign k. k) e
 sign_spelled b (c ∷ bs) found e =
     let plain = unless (begins_comment b c) (longer_sign (sign_of_two b c) (sign_of_one b)) found e in
     two_spelled b c bs found (sign_of_two b c) refl plain.0 plain.1
 
-form_spelled : (bytes : List ℕ) (found : Found) → form_at bytes ≡ Some found → Spelled bytes found
+form_spelled : (bytes : List ℕ) (found : SizedForm) → form_at bytes ≡ Some found → Spelled bytes found
 form_spelled [] found e = cc
 form_spelled (b ∷ bs) found e = by_first (chosen (begins_name b) (name_at (b ∷ bs)) _ (Some found) e)
   where
@@ -208,7 +208,7 @@ form_spelled (b ∷ bs) found e = by_first (chosen (begins_name b) (name_at (b �
 abbrev IsFront : List ℕ → Form × List ℕ → Type 0
 IsFront bytes token = (rest : List ℕ) × (bytes ≡ token.1 ++ rest) × IsToken token.0 token.1 rest × IsUtf8 token.1
 
-found_spelled : (bytes : List ℕ) (token : Form × List ℕ) (found : Option Found) → form_at bytes ≡ found → in_utf8 bytes found ≡ Some token → IsFront bytes token
+found_spelled : (bytes : List ℕ) (token : Form × List ℕ) (found : Option SizedForm) → form_at bytes ≡ found → in_utf8 bytes found ≡ Some token → IsFront bytes token
 found_spelled bytes token None h e = cc
 found_spelled bytes token (Some found) h e =
     let g = guarded (is_utf8 (take found.1 bytes)) (found.0, take found.1 bytes) token e in

@@ -28,8 +28,8 @@ IsUtf8-front xs rest b small u =
     let taken : take (length xs + 1) bytes ≡ xs ++ b ∷ [] = rw (← joined) (take_at (xs ++ b ∷ []) rest (length xs + 1) (length-append xs (b ∷ []))) in
     subst IsUtf8 taken cut
 
-pub IsUtf8-behind : (front rest : List ℕ) → IsUtf8 front → IsUtf8 (front ++ rest) → IsUtf8 rest
-IsUtf8-behind front rest f u =
+pub IsUtf8-rest : (front rest : List ℕ) → IsUtf8 front → IsUtf8 (front ++ rest) → IsUtf8 rest
+IsUtf8-rest front rest f u =
     let bytes : List ℕ = front ++ rest in
     let taken : take (length front) bytes ≡ front = take_at front rest (length front) refl in
     let dropped : drop (length front) bytes ≡ rest = drop_at front rest (length front) refl in
@@ -91,7 +91,7 @@ word_utf8 Words word rest h u = words_utf8 word rest h u
 word_utf8 (Sign sign) word rest h u = IsUtf8-from_ascii word (sign_ascii sign word rest h)
 
 pub token_utf8 : (form : Form) (word rest : List ℕ) → IsToken form word rest → IsUtf8 (word ++ rest) → IsUtf8 word × IsUtf8 rest
-token_utf8 form word rest h u = let own = word_utf8 form word rest h u in (own, IsUtf8-behind word rest own u)
+token_utf8 form word rest h u = let own = word_utf8 form word rest h u in (own, IsUtf8-rest word rest own u)
 
 pub blank_utf8 : (b : ℕ) (rest : List ℕ) → is_blank b ≡ true → IsUtf8 (b ∷ rest) → IsUtf8 rest
-blank_utf8 b rest h u = IsUtf8-behind (b ∷ []) rest (IsUtf8-from_ascii (b ∷ []) (IsAscii-cons b [] (blank_small b h) IsAscii-nil)) u
+blank_utf8 b rest h u = IsUtf8-rest (b ∷ []) rest (IsUtf8-from_ascii (b ∷ []) (IsAscii-cons b [] (blank_small b h) IsAscii-nil)) u

@@ -30,7 +30,7 @@ dash = 45
 abbrev pub line_feed : ℕ
 line_feed = 10
 
--- with a star behind it it begins a block comment, and with a star before it it ends one
+-- begins a block comment with a star after it, and ends one with a star before it
 abbrev pub slash : ℕ
 slash = 47
 

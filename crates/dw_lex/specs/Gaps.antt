@@ -1,5 +1,5 @@
--- What may stand between tokens: blanks and comments. Comments are those of the SQL standard, from `--` to the end of the line
--- or from `/*` to `*/`; the latter nest.
+-- What may stand between tokens: blanks and comments. Comments are those of the SQL standard, from `--` to the end of
+-- the line or from `/*` to `*/`; the latter nest.
 use Rattle.std.specs.Prelude.{◌≡◌, ℕ, zero, suc, ◌+◌, true, false, not, ◌&&◌, ◌||◌, ◌==◌, if◌then◌else◌, Option, Some, None, List, [], ◌∷◌, ◌++◌}
 use Rattle.std.specs.List.{list_all, prefix_len}
 use Rattle.dw_lex.specs.Characters.{is_blank, dash, line_feed, slash, star}
@@ -8,15 +8,16 @@ use Rattle.dw_lex.specs.Characters.{is_blank, dash, line_feed, slash, star}
 abbrev pub line_at : List ℕ → ℕ
 line_at bytes = prefix_len (λ b. not (b == line_feed)) bytes
 
--- Where the block comments end of which so many are open and `passed` bytes are behind us: a `*/` ends one, a `/*` opens one
--- more, and nothing else counts. `None` is said where one is not closed.
+-- Where the block comments end of which so many are open and `passed` bytes are passed: a `*/` ends one, a `/*` opens
+-- one more, and nothing else counts. `None` is said where one is not closed.
 abbrev pub blocks_end : ℕ → List ℕ → ℕ → Option ℕ
 blocks_end zero bytes passed = Some passed
 blocks_end (suc blocks) [] passed = None
 blocks_end (suc blocks) (b ∷ []) passed = None
 blocks_end (suc blocks) (b ∷ c ∷ bs) passed =
     if (b == star) && (c == slash) then blocks_end blocks bs (passed + 2) else
-    if (b == slash) && (c == star) then blocks_end (suc (suc blocks)) bs (passed + 2) else blocks_end (suc blocks) (c ∷ bs) (passed + 1)
+    if (b == slash) && (c == star) then blocks_end (suc (suc blocks)) bs (passed + 2)
+    else blocks_end (suc blocks) (c ∷ bs) (passed + 1)
 
 -- how long a block comment is, where it ends
 abbrev pub block_long : Option ℕ → ℕ
@@ -35,12 +36,13 @@ gap_at [] = 0
 gap_at (b ∷ []) = if is_blank b then 1 else 0
 gap_at (b ∷ c ∷ bs) = if is_blank b then 1 else comment_at b c bs
 
--- The bytes end all of so many block comments that are open, and with the end of the last they end: a `*/` ends one, a `/*`
--- opens one more, and nothing else counts.
+-- The bytes end all of so many block comments that are open, and with the end of the last they end: a `*/` ends one, a
+-- `/*` opens one more, and nothing else counts.
 pub data EndsBlocks : ℕ → List ℕ → Type 0 where
   all_ended : EndsBlocks 0 []
   ends : (blocks : ℕ) (bytes : List ℕ) → EndsBlocks blocks bytes → EndsBlocks (suc blocks) (star ∷ slash ∷ bytes)
-  opens : (blocks : ℕ) (bytes : List ℕ) → EndsBlocks (suc (suc blocks)) bytes → EndsBlocks (suc blocks) (slash ∷ star ∷ bytes)
+  opens : (blocks : ℕ) (bytes : List ℕ) → EndsBlocks (suc (suc blocks)) bytes
+      → EndsBlocks (suc blocks) (slash ∷ star ∷ bytes)
   other : (blocks b c : ℕ) (bytes : List ℕ) → ((b == star) && (c == slash)) || ((b == slash) && (c == star)) ≡ false
       → EndsBlocks (suc blocks) (c ∷ bytes) → EndsBlocks (suc blocks) (b ∷ c ∷ bytes)
 
@@ -49,12 +51,13 @@ abbrev pub EndsLine : List ℕ → Type 0
 EndsLine [] = Unit {0}
 EndsLine (b ∷ bs) = (b == line_feed) ≡ true
 
--- a comment where this rest is behind it
+-- a comment where this rest comes after it
 pub data IsComment : List ℕ → List ℕ → Type 0 where
-  line : (text rest : List ℕ) → list_all (λ b. not (b == line_feed)) text ≡ true → EndsLine rest → IsComment (dash ∷ dash ∷ text) rest
+  line : (text rest : List ℕ) → list_all (λ b. not (b == line_feed)) text ≡ true → EndsLine rest
+      → IsComment (dash ∷ dash ∷ text) rest
   block : (text rest : List ℕ) → EndsBlocks 1 text → IsComment (slash ∷ star ∷ text) rest
 
--- blanks and comments one after the other, where this rest is behind them
+-- blanks and comments one after the other, where this rest comes after them
 pub data IsGap : List ℕ → List ℕ → Type 0 where
   nothing : (rest : List ℕ) → IsGap [] rest
   blank : (b : ℕ) (gap rest : List ℕ) → is_blank b ≡ true → IsGap gap rest → IsGap (b ∷ gap) rest

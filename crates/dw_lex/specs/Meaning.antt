@@ -16,19 +16,19 @@ folded name = map to_ascii_lowercase name
 abbrev pub IsWord : List ℕ → Token → Type 0
 IsWord word token = (token.form ≡ Name) × (folded token.text ≡ folded word)
 
--- The text behind an opening quote: a quote is left out unless it comes after one that is left out, as the second of two
+-- The text after an opening quote: a quote is left out unless it comes after one that is left out, as the second of two
 -- does. `pending` says whether the byte before is a quote that is left out.
-abbrev pub said_behind : List ℕ → Bool → List ℕ
-said_behind [] pending = []
-said_behind (b ∷ bs) pending =
+abbrev pub said_after : List ℕ → Bool → List ℕ
+said_after [] pending = []
+said_after (b ∷ bs) pending =
     if b == quote
-    then (if pending then b ∷ said_behind bs false else said_behind bs true)
-    else b ∷ said_behind bs false
+    then (if pending then b ∷ said_after bs false else said_after bs true)
+    else b ∷ said_after bs false
 
 -- what a text in single quotes says: its bytes without the quotes round it, and one quote for two
 abbrev pub said_by : List ℕ → List ℕ
 said_by [] = []
-said_by (b ∷ bs) = if b == quote then said_behind bs false else said_behind (b ∷ bs) false
+said_by (b ∷ bs) = if b == quote then said_after bs false else said_after (b ∷ bs) false
 
 -- the number that digits write, where it is below 2 ^ 128, as each of at most 38 digits is
 abbrev pub number_of_digits : List ℕ → Option ℕ

@@ -13,8 +13,8 @@ pub record IsSlice (text : List ℕ) (token : Token) : Type 0 where
   pub within : token.end ≤ length text
   pub slice : token.text ≡ slice_range text token.start token.end
 
--- The tokens are slices of the text, one after the other from one place up to another, and only blanks and comments stand
--- before, between and behind them.
+-- The tokens are slices of the text, one after the other from one place up to another, and only blanks and comments
+-- stand before, between and after them.
 abbrev pub AreInOrder : List ℕ → ℕ → List Token → ℕ → Type 0
 AreInOrder text from [] to = (from ≤ to) × IsGapBetween text from to
 AreInOrder text from (token ∷ tokens) to =

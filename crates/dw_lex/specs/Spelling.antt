@@ -1,4 +1,4 @@
--- How tokens are spelled: what the bytes of a token are, and what doesn't stand behind it, since it is the longest at its
+-- How tokens are spelled: what the bytes of a token are, and what doesn't come after it, since it is the longest at its
 -- place. This says the lexical rules without reading; `token_at` reads by them.
 use Rattle.std.specs.Prelude.{◌≡◌, ℕ, ◌+◌, ◌<◌, ◌≤◌, Bool, true, false, ◌==◌, Some, None, List, [], ◌∷◌, ◌++◌, length}
 use Rattle.std.specs.List.{list_all}
@@ -15,7 +15,7 @@ abbrev pub EndsAt : (ℕ → Bool) → List ℕ → Type 0
 EndsAt test [] = Unit {0}
 EndsAt test (b ∷ bs) = test b ≡ false
 
--- A name: a letter or `_`, then letters, `_`, digits or `$`; at most 127 bytes, and no such character behind it.
+-- A name: a letter or `_`, then letters, `_`, digits or `$`; at most 127 bytes, and no such character after it.
 abbrev pub IsName : List ℕ → List ℕ → Type 0
 IsName [] rest = ⊥
 IsName (b ∷ bs) rest =
@@ -26,8 +26,8 @@ abbrev pub IsDigits : List ℕ → Type 0
 IsDigits [] = ⊥
 IsDigits (b ∷ bs) = (is_ascii_digit b ≡ true) × (list_all is_ascii_digit bs ≡ true)
 
--- A number: digits, or digits, a point and digits; at most 38 digits, no digit behind it, and behind digits alone no point
--- with a digit.
+-- A number: digits, or digits, a point and digits; at most 38 digits, no digit after it, and after digits alone no
+-- point with a digit.
 pub data IsNumber : List ℕ → List ℕ → Type 0 where
   whole : (digits rest : List ℕ) → IsDigits digits → length digits ≤ 38
       → EndsAt is_ascii_digit rest → fraction_at rest ≡ 0 → IsNumber digits rest
@@ -40,11 +40,12 @@ pub data IsInside : List ℕ → Type 0 where
   other : (b : ℕ) (bs : List ℕ) → (b == quote) ≡ false → IsInside bs → IsInside (b ∷ bs)
   quotes : (bs : List ℕ) → IsInside bs → IsInside (quote ∷ quote ∷ bs)
 
--- A text: a quote, what may stand inside, and a quote, with no quote behind it.
+-- A text: a quote, what may stand inside, and a quote, with no quote after it.
 pub data IsWords : List ℕ → List ℕ → Type 0 where
-  text : (inside rest : List ℕ) → IsInside inside → EndsAt (λ b. b == quote) rest → IsWords (quote ∷ inside ++ quote ∷ []) rest
+  text : (inside rest : List ℕ) → IsInside inside → EndsAt (λ b. b == quote) rest
+      → IsWords (quote ∷ inside ++ quote ∷ []) rest
 
--- A sign: of two characters, or of one that with the character behind it makes no sign of two and begins no comment.
+-- A sign: of two characters, or of one that with the character after it makes no sign of two and begins no comment.
 abbrev pub IsSign : Mark → List ℕ → List ℕ → Type 0
 IsSign sign [] rest = ⊥
 IsSign sign (b ∷ []) [] = sign_of_one b ≡ Some sign
@@ -52,7 +53,7 @@ IsSign sign (b ∷ []) (c ∷ rest) = (sign_of_one b ≡ Some sign) × (sign_of_
 IsSign sign (b ∷ c ∷ []) rest = sign_of_two b c ≡ Some sign
 IsSign sign (b ∷ c ∷ d ∷ bs) rest = ⊥
 
--- the bytes are a token of this form where this rest is behind them
+-- the bytes are a token of this form where this rest comes after them
 abbrev pub IsToken : Form → List ℕ → List ℕ → Type 0
 IsToken Name word rest = IsName word rest
 IsToken Number word rest = IsNumber word rest

@@ -1,3 +1,4 @@
+//! Why a text has no tokens.
 use std::alloc::AllocError;
 
 /// Why a text has no tokens.

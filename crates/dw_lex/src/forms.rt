@@ -1,3 +1,4 @@
+//! The token at the front of bytes, by its form.
 ghost use Rattle.std.specs.Prelude.{◌≡◌, ◌≤◌, ◌+◌, ◌<◌, false, length, take, IfSome, option_map};
 ghost use Rattle.std.specs.List.{prefix_len};
 ghost use Rattle.std.specs.Option.{option_copied};
@@ -79,7 +80,7 @@ fn number_at(bytes: &[u8]) -> Option<(Form, usize)>
     }
 }
 
-// A text, by the bytes behind its opening quote.
+// A text, by the bytes after its opening quote.
 fn words_at(inside: &[u8]) -> Option<(Form, usize)>
     ensures found { result ≡ words_at inside.now }
     ensures some { IfSome result (λ found. 0 < found.1) }

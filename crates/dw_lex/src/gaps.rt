@@ -1,3 +1,4 @@
+//! Blanks and comments between tokens.
 ghost use Rattle.std.specs.Prelude.{◌≡◌, ◌≤◌, ◌+◌, ◌&&◌, ◌==◌, length, IfSome};
 ghost use Rattle.dw_lex.specs.Characters.{is_blank, begins_comment, slash, star};
 ghost use Rattle.dw_lex.specs.Gaps.{line_at, blocks_end, gap_at};
@@ -34,7 +35,7 @@ fn begins_block(first: u8, second: u8) -> bool
     first == b'/' && second == b'*'
 }
 
-// A block comment, by the bytes behind its opening.
+// A block comment, by the bytes after its opening.
 fn block_at(inside: &[u8]) -> Option<usize>
     ensures end { result ≡ blocks_end 1 inside.now 2 }
     ensures within { IfSome result (λ long. long ≤ length inside.now + 2) }
@@ -58,8 +59,8 @@ fn block_at(inside: &[u8]) -> Option<usize>
     None
 }
 
-/// How many bytes the blank or the comment takes at the front of the bytes, and 0 where neither begins. A block comment that
-/// is not closed is none.
+/// How many bytes the blank or the comment takes at the front of the bytes, and 0 where neither begins. A block comment
+/// that is not closed is none.
 pub fn gap_at(bytes: &[u8]) -> usize
     ensures long { result ≡ gap_at bytes.now }
     ensures within { result ≤ length bytes.now }

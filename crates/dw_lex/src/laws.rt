@@ -8,7 +8,7 @@ ghost use Rattle.dw_lex.specs.Spelling.{IsToken};
 ghost use Rattle.dw_lex.specs.declared.token.Form.{Form};
 
 /// What is spelled as a token at the front of bytes is the token that is read there. So no two tokens are, and none is
-/// longer. Where all bytes are UTF-8, the token is, and so are the bytes behind it.
+/// longer. Where all bytes are UTF-8, the token is, and so are the bytes after it.
 pub fn spelled_tokens_are_read()
     ensures read { (form : Form) (word rest : List ℕ) →
         IsToken form word rest → IsUtf8 word → token_at (word ++ rest) ≡ Some (form, word) }
@@ -23,8 +23,8 @@ pub fn read_tokens_are_spelled()
         (rest : List ℕ) × (bytes ≡ word ++ rest) × IsToken form word rest × IsUtf8 word }
 {}
 
-/// What is spelled as a blank or a comment at the front of bytes is passed over there, whatever it holds, and no token is
-/// spelled there. Where all bytes are UTF-8, those behind it are.
+/// What is spelled as a blank or a comment at the front of bytes is passed over there, whatever it holds, and no token
+/// is spelled there. Where all bytes are UTF-8, those after it are.
 pub fn spelled_gaps_are_passed()
     ensures blank { (b : ℕ) (rest : List ℕ) → is_blank b ≡ true → gap_at (b ∷ rest) ≡ 1 }
     ensures comment { (word rest : List ℕ) → IsComment word rest → gap_at (word ++ rest) ≡ length word }

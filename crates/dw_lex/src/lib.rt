@@ -1,7 +1,7 @@
 //! The tokens of a statement: names, numbers, texts in quotes and signs, each with its place.
 //!
-//! The rules are this project's profile of the lexical structure in the Amazon Redshift guide and the SQL standard. Quoted
-//! names are not read yet.
+//! The rules are this project's profile of the lexical structure in the Amazon Redshift guide and the SQL standard.
+//! Quoted names are not read yet.
 #![tactic(auto)]
 
 mod fault;

@@ -1,13 +1,14 @@
+//! What a token says.
 ghost use Rattle.std.specs.Prelude.{◌≡◌, false, IfOk};
 ghost use Rattle.std.specs.Char.{is_ascii_digit};
 ghost use Rattle.std.specs.List.{list_all};
-ghost use Rattle.dw_lex.specs.Meaning.{said_by, said_behind, number_of_digits};
+ghost use Rattle.dw_lex.specs.Meaning.{said_by, said_after, number_of_digits};
 
 use std::alloc::{AllocError, Global};
 
-// The bytes of a text behind its opening quote.
-fn said_behind(alloc: Global, bytes: &[u8]) -> Result<Vec<u8>, AllocError>
-    ensures { IfOk result (λ said. said.items ≡ said_behind bytes.now false) }
+// The bytes of a text after its opening quote.
+fn said_after(alloc: Global, bytes: &[u8]) -> Result<Vec<u8>, AllocError>
+    ensures { IfOk result (λ said. said.items ≡ said_after bytes.now false) }
 {
     let mut said = Vec::new(alloc);
     let mut pending = false;
@@ -26,8 +27,8 @@ pub fn said_by(alloc: Global, bytes: &[u8]) -> Result<Vec<u8>, AllocError>
     ensures { IfOk result (λ said. said.items ≡ said_by bytes.now) }
 {
     match bytes {
-        [b'\'', inside @ ..] => said_behind(alloc, inside),
-        _ => said_behind(alloc, bytes),
+        [b'\'', inside @ ..] => said_after(alloc, inside),
+        _ => said_after(alloc, bytes),
     }
 }
 

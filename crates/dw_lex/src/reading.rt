@@ -1,3 +1,4 @@
+//! The tokens of a text.
 ghost use Rattle.std.specs.Prelude.{◌≡◌, ◌<◌, ◌≤◌, length, drop, IfOk};
 ghost use Rattle.dw_lex.specs.Forms.{token_at};
 ghost use Rattle.dw_lex.specs.Places.{IsSlice, AreInOrder};
@@ -32,9 +33,9 @@ fn token(alloc: Global, text: &[u8], start: usize) -> Result<Token, LexFault>
     })
 }
 
-/// The tokens of a text, in order. A token is the longest that can be read at its place, and blanks and comments may stand
-/// around it. Spaces, tabs, line feeds and carriage returns are blanks. A comment is from `--` to the end of the line or
-/// from `/*` to `*/`, and these nest; it begins wherever a token could, as in `a--b` and in `1/* */`.
+/// The tokens of a text, in order. A token is the longest that can be read at its place, and blanks and comments may
+/// stand around it. Spaces, tabs, line feeds and carriage returns are blanks. A comment is from `--` to the end of the
+/// line or from `/*` to `*/`, and these nest; it begins wherever a token could, as in `a--b` and in `1/* */`.
 ///
 /// `Foreign` has the first place where neither begins: another character stands there, or a name of more than 127
 /// bytes, a number of more than 38 digits, a text that isn't closed or isn't UTF-8, or the `/*` of a comment that isn't

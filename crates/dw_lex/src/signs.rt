@@ -1,3 +1,4 @@
+//! The signs of SQL and their spelling.
 ghost use Rattle.std.specs.Prelude.{◌≡◌};
 ghost use Rattle.dw_lex.specs.Signs.{sign_of_one, sign_of_two};
 

@@ -1,3 +1,4 @@
+//! Tests of tokens.
 use super::{Form, LexFault, Sign, tokens};
 use std::alloc::{AllocError, Global};
 use std::test::Fail;

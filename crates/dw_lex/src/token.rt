@@ -1,3 +1,4 @@
+//! Tokens.
 ghost use Rattle.std.specs.Prelude.{◌≡◌, ◌↔◌, IsTrue, IfOk};
 
 use crate::meaning::{number_of_digits, said_by};
@@ -26,7 +27,7 @@ pub struct Token {
     pub text: Text,
     /// Where it begins, in bytes from the text's start.
     pub start: u64,
-    /// Where it ends: the place of the first byte behind it.
+    /// Where it ends: the place of the first byte after it.
     pub end: u64,
 }
 

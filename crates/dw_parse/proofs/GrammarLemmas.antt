@@ -16,8 +16,8 @@ use Rattle.dw_value.specs.declared.values.Row.{Row}
 use Rattle.dw_value.specs.declared.values.Value.{Value}
 use Rattle.dw_value.specs.declared.values.Value.TheVariants as value
 use Rattle.dw_model.specs.declared.statements.ColumnSpec.{ColumnSpec}
-use Rattle.dw_parse.specs.Words.{is_name, sign_of, says_in, literal_in, literal_of, number_of, name_of, is_open, is_close, is_comma, is_dot, is_minus, in_length, word_at, sign_at, name_at, number_at, literal_at}
-use Rattle.dw_parse.specs.Reading.{goes_on, listed_within, listed_at, table_at, kind_at, varchar_of, column_of, column_at, item_at, closed_row, tuple_at, named_at}
+use Rattle.dw_parse.specs.Words.{is_sign, is_sign_at, is_name, sign_of, says_in, literal_in, literal_of, number_of, name_of, in_length, word_at, sign_at, name_at, number_at, literal_at}
+use Rattle.dw_parse.specs.Reading.{first_and_more, listed_within, listed_at, table_at, kind_at, varchar_of, column_of, column_at, item_at, closed_row, tuple_at, named_at}
 use Rattle.dw_parse.specs.Grammar.{Listed, one, more, IsNamed, named, IsTable, alone, public, IsKind, integer, varchar, IsColumn, column, IsItem, literal, negative, IsTuple, tuple}
 
 -- what is found at a place is within the tokens
@@ -55,23 +55,23 @@ item_spans tokens (negative {i} {n} m e) = let h = at_within number_of tokens (i
 
 kind_spans : (tokens : List Token) {i j : ℕ} {kind : Kind} → IsKind tokens i kind j → Spans tokens i j
 kind_spans tokens (integer {i} w) = let h = word_within (codes "integer") tokens i w in (omega arith, omega arith)
-kind_spans tokens (varchar {i} w o n l c) = let h = sign_within is_close tokens (i + 3) refl c in (omega arith, omega arith)
+kind_spans tokens (varchar {i} w o n l c) = let h = sign_within (is_sign mark.Close) tokens (i + 3) refl c in (omega arith, omega arith)
 
 pub column_spans : (tokens : List Token) {i j : ℕ} {one_column : ColumnSpec} → IsColumn tokens i one_column j → Spans tokens i j
 column_spans tokens (column {i} n k) = let h = kind_spans tokens k in (omega arith, omega arith)
 
 -- the tests on tokens are of one kind each
-minus_form : (f : Form) (t : Token) (v : Value) → literal_in f t ≡ Some v → is_minus (sign_of f) ≡ false
+minus_form : (f : Form) (t : Token) (v : Value) → literal_in f t ≡ Some v → is_sign mark.Minus (sign_of f) ≡ false
 minus_form form.Name t v e = refl
 minus_form form.Number t v e = refl
 minus_form form.Words t v e = refl
 minus_form (form.Sign s) t v e = cc
 
-minus_found : (v : Value) (found : Option Token) → option_and_then literal_of found ≡ Some v → is_minus (option_and_then (λ token. sign_of token.form) found) ≡ false
+minus_found : (v : Value) (found : Option Token) → option_and_then literal_of found ≡ Some v → is_sign mark.Minus (option_and_then (λ token. sign_of token.form) found) ≡ false
 minus_found v None e = cc
 minus_found v (Some t) e = minus_form t.form t v e
 
-no_minus : (tokens : List Token) (i : ℕ) (v : Value) → literal_at tokens i ≡ Some v → is_minus (sign_at tokens i) ≡ false
+no_minus : (tokens : List Token) (i : ℕ) (v : Value) → literal_at tokens i ≡ Some v → is_sign_at mark.Minus tokens i ≡ false
 no_minus tokens i v e = minus_found v (slice_get tokens i) e
 
 other_test : (t : Bool) → (t ≡ true → ⊥) → t ≡ false
@@ -117,7 +117,7 @@ module _ {A : Type 0} (x : ℕ → Option (A × ℕ)) (X : ℕ → A → ℕ →
       let s = spans i j a h in let t = listed_spans rest in (omega arith, t.1)
 
   listed_complete : ((i j : ℕ) (a : A) → X i a j → x i ≡ Some (a, j)) → (limit : ℕ) {i k : ℕ} {xs : List A} → Listed X tokens i xs k
-      → is_comma (sign_at tokens k) ≡ false → length tokens < limit + i → listed_within x tokens limit i ≡ Some (xs, k)
+      → is_sign_at mark.Comma tokens k ≡ false → length tokens < limit + i → listed_within x tokens limit i ≡ Some (xs, k)
   listed_complete each zero (one {i} {j} {a} h) stop big = let s = spans i j a h in absurd (omega arith)
   listed_complete each zero (more {i} {j} {k} {a} {xs} h comma rest) stop big = let s = spans i j a h in absurd (omega arith)
   listed_complete each (suc limit) (one {i} {j} {a} h) stop big = let e = each i j a h in rw (e, stop) refl
@@ -125,8 +125,8 @@ module _ {A : Type 0} (x : ℕ → Option (A × ℕ)) (X : ℕ → A → ℕ →
       let s = spans i j a h in
       let e = each i j a h in
       let below : length tokens < limit + (j + 1) = omega arith in
-      let behind = listed_complete each limit rest stop below in
-      rw (e, comma, behind) refl
+      let tail = listed_complete each limit rest stop below in
+      rw (e, comma, tail) refl
 
   pub listed_sound : ((i : ℕ) (r : A × ℕ) → x i ≡ Some r → X i r.0 r.1) → (limit i : ℕ) (r : List A × ℕ) → listed_within x tokens limit i ≡ Some r → Listed X tokens i r.0 r.1
   listed_sound each zero i r e = absurd (none_is_some r e)
@@ -135,7 +135,7 @@ module _ {A : Type 0} (x : ℕ → Option (A × ℕ)) (X : ℕ → A → ℕ →
       none_is_some r e = cc
   listed_sound each (suc limit) i r e = on (listed_sound each limit) (x i) refl e
     where
-      by_comma : ((j : ℕ) (q : List A × ℕ) → listed_within x tokens limit j ≡ Some q → Listed X tokens j q.0 q.1) → (first : A × ℕ) → x i ≡ Some first → (b : Bool) → is_comma (sign_at tokens first.1) ≡ b
+      by_comma : ((j : ℕ) (q : List A × ℕ) → listed_within x tokens limit j ≡ Some q → Listed X tokens j q.0 q.1) → (first : A × ℕ) → x i ≡ Some first → (b : Bool) → is_sign_at mark.Comma tokens first.1 ≡ b
           → (if b then option_map (λ rest. (first.0 ∷ rest.0, rest.1)) (listed_within x tokens limit (first.1 + 1)) else Some (first.0 ∷ [], first.1)) ≡ Some r → Listed X tokens i r.0 r.1
       by_comma again first is true comma e =
           let m = map_some (λ (rest : List A × ℕ). (first.0 ∷ rest.0, rest.1)) (listed_within x tokens limit (first.1 + 1)) r e in
@@ -145,9 +145,9 @@ module _ {A : Type 0} (x : ℕ → Option (A × ℕ)) (X : ℕ → A → ℕ →
           let same : (first.0 ∷ [], first.1) ≡ r = cc in
           subst (λ (q : List A × ℕ). Listed X tokens i q.0 q.1) same (one (each i first is))
 
-      on : ((j : ℕ) (q : List A × ℕ) → listed_within x tokens limit j ≡ Some q → Listed X tokens j q.0 q.1) → (found : Option (A × ℕ)) → x i ≡ found → goes_on found (λ j. is_comma (sign_at tokens j)) (listed_within x tokens limit) ≡ Some r → Listed X tokens i r.0 r.1
+      on : ((j : ℕ) (q : List A × ℕ) → listed_within x tokens limit j ≡ Some q → Listed X tokens j q.0 q.1) → (found : Option (A × ℕ)) → x i ≡ found → first_and_more found (λ j. is_sign_at mark.Comma tokens j) (listed_within x tokens limit) ≡ Some r → Listed X tokens i r.0 r.1
       on again None is e = cc
-      on again (Some first) is e = by_comma again first is (is_comma (sign_at tokens first.1)) refl e
+      on again (Some first) is e = by_comma again first is (is_sign_at mark.Comma tokens first.1) refl e
 
 -- `name`
 pub named_complete : (tokens : List Token) {i j : ℕ} {name : List ℕ} → IsNamed tokens i name j → named_at tokens i ≡ Some (name, j)
@@ -163,19 +163,19 @@ and_false : (a b : Bool) → b ≡ false → (a && b) ≡ false
 and_false true b e = e
 and_false false b e = refl
 
-pub table_complete : (tokens : List Token) {i j : ℕ} {name : List ℕ} → IsTable tokens i name j → is_dot (sign_at tokens j) ≡ false → table_at tokens i ≡ Some (name, j)
+pub table_complete : (tokens : List Token) {i j : ℕ} {name : List ℕ} → IsTable tokens i name j → is_sign_at mark.Dot tokens j ≡ false → table_at tokens i ≡ Some (name, j)
 table_complete tokens (alone {i} e) stop =
-    let lacks = and_false (word_at (codes "public") tokens i) (is_dot (sign_at tokens (i + 1))) stop in rw (lacks, e) refl
+    let lacks = and_false (word_at (codes "public") tokens i) (is_sign_at mark.Dot tokens (i + 1)) stop in rw (lacks, e) refl
 table_complete tokens (public w d e) stop = rw (w, d, e) refl
 
 pub table_sound : (tokens : List Token) (i : ℕ) (r : List ℕ × ℕ) → table_at tokens i ≡ Some r → IsTable tokens i r.0 r.1
 table_sound tokens i r e =
-    on (if_either (word_at (codes "public") tokens i && is_dot (sign_at tokens (i + 1))) (option_map (λ (name : List ℕ). (name, i + 3)) (name_at tokens (i + 2))) (option_map (λ (name : List ℕ). (name, i + 1)) (name_at tokens i)) r e)
+    on (if_either (word_at (codes "public") tokens i && is_sign_at mark.Dot tokens (i + 1)) (option_map (λ (name : List ℕ). (name, i + 3)) (name_at tokens (i + 2))) (option_map (λ (name : List ℕ). (name, i + 1)) (name_at tokens i)) r e)
   where
-    on : (((word_at (codes "public") tokens i && is_dot (sign_at tokens (i + 1))) ≡ true) × (option_map (λ (name : List ℕ). (name, i + 3)) (name_at tokens (i + 2)) ≡ Some r))
-        ⊎ (((word_at (codes "public") tokens i && is_dot (sign_at tokens (i + 1))) ≡ false) × (option_map (λ (name : List ℕ). (name, i + 1)) (name_at tokens i) ≡ Some r)) → IsTable tokens i r.0 r.1
+    on : (((word_at (codes "public") tokens i && is_sign_at mark.Dot tokens (i + 1)) ≡ true) × (option_map (λ (name : List ℕ). (name, i + 3)) (name_at tokens (i + 2)) ≡ Some r))
+        ⊎ (((word_at (codes "public") tokens i && is_sign_at mark.Dot tokens (i + 1)) ≡ false) × (option_map (λ (name : List ℕ). (name, i + 1)) (name_at tokens i) ≡ Some r)) → IsTable tokens i r.0 r.1
     on (inl h) =
-        let t = and_both (word_at (codes "public") tokens i) (is_dot (sign_at tokens (i + 1))) h.0 in
+        let t = and_both (word_at (codes "public") tokens i) (is_sign_at mark.Dot tokens (i + 1)) h.0 in
         let m = map_some (λ (name : List ℕ). (name, i + 3)) (name_at tokens (i + 2)) r h.1 in
         subst (λ (q : List ℕ × ℕ). IsTable tokens i q.0 q.1) m.2 (public t.0 t.1 m.1)
     on (inr h) =
@@ -196,18 +196,18 @@ kind_complete tokens (varchar {i} w o n l c) =
 
 kind_sound : (tokens : List Token) (i : ℕ) (r : Kind × ℕ) → kind_at tokens i ≡ Some r → IsKind tokens i r.0 r.1
 kind_sound tokens i r e =
-    on (if_either (word_at (codes "integer") tokens i) (Some (Int, i + 1)) (if word_at (codes "varchar") tokens i && is_open (sign_at tokens (i + 1)) then option_and_then (varchar_of tokens i) (number_at tokens (i + 2)) else None) r e)
+    on (if_either (word_at (codes "integer") tokens i) (Some (Int, i + 1)) (if word_at (codes "varchar") tokens i && is_sign_at mark.Open tokens (i + 1) then option_and_then (varchar_of tokens i) (number_at tokens (i + 2)) else None) r e)
   where
     on : ((word_at (codes "integer") tokens i ≡ true) × (Some (Int, i + 1) ≡ Some r))
-        ⊎ ((word_at (codes "integer") tokens i ≡ false) × ((if word_at (codes "varchar") tokens i && is_open (sign_at tokens (i + 1)) then option_and_then (varchar_of tokens i) (number_at tokens (i + 2)) else None) ≡ Some r)) → IsKind tokens i r.0 r.1
+        ⊎ ((word_at (codes "integer") tokens i ≡ false) × ((if word_at (codes "varchar") tokens i && is_sign_at mark.Open tokens (i + 1) then option_and_then (varchar_of tokens i) (number_at tokens (i + 2)) else None) ≡ Some r)) → IsKind tokens i r.0 r.1
     on (inl h) =
         let same : (Int, i + 1) ≡ r = cc (h.1) in
         subst (λ (q : Kind × ℕ). IsKind tokens i q.0 q.1) same (integer h.0)
     on (inr h) =
-        let t = if_some (word_at (codes "varchar") tokens i && is_open (sign_at tokens (i + 1))) (option_and_then (varchar_of tokens i) (number_at tokens (i + 2))) r h.1 in
-        let w = and_both (word_at (codes "varchar") tokens i) (is_open (sign_at tokens (i + 1))) t.0 in
+        let t = if_some (word_at (codes "varchar") tokens i && is_sign_at mark.Open tokens (i + 1)) (option_and_then (varchar_of tokens i) (number_at tokens (i + 2))) r h.1 in
+        let w = and_both (word_at (codes "varchar") tokens i) (is_sign_at mark.Open tokens (i + 1)) t.0 in
         let n = bind_some (varchar_of tokens i) (number_at tokens (i + 2)) r t.1 in
-        let c = if_some (is_close (sign_at tokens (i + 3))) (option_map (λ (kind : Kind). (kind, i + 4)) (option_map (λ (limit : ℕ). Varchar limit) (in_length n.0))) r n.2 in
+        let c = if_some (is_sign_at mark.Close tokens (i + 3)) (option_map (λ (kind : Kind). (kind, i + 4)) (option_map (λ (limit : ℕ). Varchar limit) (in_length n.0))) r n.2 in
         let m = map_some (λ (kind : Kind). (kind, i + 4)) (option_map (λ (limit : ℕ). Varchar limit) (in_length n.0)) r c.1 in
         let l = map_some (λ (limit : ℕ). Varchar limit) (in_length n.0) m.0 m.1 in
         subst (λ (q : Kind × ℕ). IsKind tokens i q.0 q.1) m.2
@@ -230,10 +230,10 @@ item_complete tokens (negative m e) = rw (m, e) refl
 
 pub item_sound : (tokens : List Token) (i : ℕ) (r : Value × ℕ) → item_at tokens i ≡ Some r → IsItem tokens i r.0 r.1
 item_sound tokens i r e =
-    on (if_either (is_minus (sign_at tokens i)) (option_map (λ (v : Value). (v, i + 2)) (option_map (λ (n : ℕ). value.Number (neg_ℤ (pos n))) (number_at tokens (i + 1)))) (option_map (λ (v : Value). (v, i + 1)) (literal_at tokens i)) r e)
+    on (if_either (is_sign_at mark.Minus tokens i) (option_map (λ (v : Value). (v, i + 2)) (option_map (λ (n : ℕ). value.Number (neg_ℤ (pos n))) (number_at tokens (i + 1)))) (option_map (λ (v : Value). (v, i + 1)) (literal_at tokens i)) r e)
   where
-    on : ((is_minus (sign_at tokens i) ≡ true) × (option_map (λ (v : Value). (v, i + 2)) (option_map (λ (n : ℕ). value.Number (neg_ℤ (pos n))) (number_at tokens (i + 1))) ≡ Some r))
-        ⊎ ((is_minus (sign_at tokens i) ≡ false) × (option_map (λ (v : Value). (v, i + 1)) (literal_at tokens i) ≡ Some r)) → IsItem tokens i r.0 r.1
+    on : ((is_sign_at mark.Minus tokens i ≡ true) × (option_map (λ (v : Value). (v, i + 2)) (option_map (λ (n : ℕ). value.Number (neg_ℤ (pos n))) (number_at tokens (i + 1))) ≡ Some r))
+        ⊎ ((is_sign_at mark.Minus tokens i ≡ false) × (option_map (λ (v : Value). (v, i + 1)) (literal_at tokens i) ≡ Some r)) → IsItem tokens i r.0 r.1
     on (inl h) =
         let m = map_some (λ (v : Value). (v, i + 2)) (option_map (λ (n : ℕ). value.Number (neg_ℤ (pos n))) (number_at tokens (i + 1))) r h.1 in
         let n = map_some (λ (n : ℕ). value.Number (neg_ℤ (pos n))) (number_at tokens (i + 1)) m.0 m.1 in
@@ -244,7 +244,7 @@ item_sound tokens i r e =
         subst (λ (q : Value × ℕ). IsItem tokens i q.0 q.1) m.2 (literal m.1)
 
 -- `( item {, item} )`
-pub close_comma : (s : Option Mark) → is_close s ≡ true → is_comma s ≡ false
+pub close_comma : (s : Option Mark) → is_sign mark.Close s ≡ true → is_sign mark.Comma s ≡ false
 close_comma None e = refl
 close_comma (Some mark.Close) e = refl
 close_comma (Some mark.Comma) e = sym e
@@ -256,10 +256,10 @@ items_spans tokens i j v h = item_spans tokens h
 pub tuple_spans : (tokens : List Token) (i j : ℕ) (row : Row) → IsTuple tokens i row j → Spans tokens i j
 tuple_spans tokens i j row (tuple {i = m} {j = k} o items c) =
     let s = listed_spans (item_at tokens) (IsItem tokens) tokens (items_spans tokens) items in
-    let h = sign_within is_close tokens k refl c in (omega arith, omega arith)
+    let h = sign_within (is_sign mark.Close) tokens k refl c in (omega arith, omega arith)
 
 pub listed_at_complete : {A : Type 0} (x : ℕ → Option (A × ℕ)) (X : ℕ → A → ℕ → Type 0) (tokens : List Token) → ((i j : ℕ) (a : A) → X i a j → Spans tokens i j)
-    → ((i j : ℕ) (a : A) → X i a j → x i ≡ Some (a, j)) → {i k : ℕ} {xs : List A} → Listed X tokens i xs k → is_comma (sign_at tokens k) ≡ false → listed_at x tokens i ≡ Some (xs, k)
+    → ((i j : ℕ) (a : A) → X i a j → x i ≡ Some (a, j)) → {i k : ℕ} {xs : List A} → Listed X tokens i xs k → is_sign_at mark.Comma tokens k ≡ false → listed_at x tokens i ≡ Some (xs, k)
 listed_at_complete x X tokens spans each d stop = listed_complete x X tokens spans each (suc (length tokens)) d stop (omega arith)
 
 items_complete : (tokens : List Token) (i j : ℕ) (v : Value) → IsItem tokens i v j → item_at tokens i ≡ Some (v, j)
@@ -272,10 +272,10 @@ tuple_complete tokens i j row (tuple {i = m} {j = k} o items c) =
 
 pub tuple_sound : (tokens : List Token) (i : ℕ) (r : Row × ℕ) → tuple_at tokens i ≡ Some r → IsTuple tokens i r.0 r.1
 tuple_sound tokens i r e =
-    let o = if_some (is_open (sign_at tokens i)) (option_and_then (closed_row tokens) (listed_at (item_at tokens) tokens (i + 1))) r e in
+    let o = if_some (is_sign_at mark.Open tokens i) (option_and_then (closed_row tokens) (listed_at (item_at tokens) tokens (i + 1))) r e in
     let b = bind_some (closed_row tokens) (listed_at (item_at tokens) tokens (i + 1)) r o.1 in
     let made : Row × ℕ = (record { values = b.0.0 }, b.0.1 + 1) in
-    let c = if_some (is_close (sign_at tokens b.0.1)) (Some made) r b.2 in
+    let c = if_some (is_sign_at mark.Close tokens b.0.1) (Some made) r b.2 in
     let same : made ≡ r = cc (c.1) in
     subst (λ (q : Row × ℕ). IsTuple tokens i q.0 q.1) same
     (tuple o.0 (listed_sound (item_at tokens) (IsItem tokens) tokens (items_spans tokens) (item_sound tokens) (suc (length tokens)) (i + 1) b.0 b.1) c.0)

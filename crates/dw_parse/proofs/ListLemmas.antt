@@ -1,11 +1,12 @@
--- Reading on behind the first of several that commas part.
+-- Reading on after the first of several that commas part.
 use Rattle.std.proofs.Common.{◌≡◌, ℕ, zero, suc, ◌+◌, ◌<◌, ◌≤◌, true, false, Option, Some, None, List, [], ◌∷◌, ◌++◌, length, refl, sym, ◌∙◌, ap, append_assoc, arith}
 use Rattle.std.specs.Option.{option_map}
+use Rattle.dw_lex.specs.declared.signs.Sign.TheVariants as mark
 use Rattle.dw_lex.specs.declared.token.Token.{Token}
-use Rattle.dw_parse.specs.Words.{is_comma, sign_at}
+use Rattle.dw_parse.specs.Words.{is_sign_at}
 use Rattle.dw_parse.specs.Reading.{listed_within, listed_at}
 
--- those so far, and those behind them
+-- those so far, and those after them
 abbrev pub with_front : {A : Type 0} → List A → Option (List A × ℕ) → Option (List A × ℕ)
 with_front front None = None
 with_front front (Some rest) = Some (front ++ rest.0, rest.1)
@@ -27,28 +28,21 @@ pub reads_all : {A : Type 0} (x : ℕ → Option (A × ℕ)) (tokens : List Toke
 reads_all x tokens at = (suc (length tokens), omega arith, with_front-none (listed_at x tokens at))
 
 module _ {A : Type 0} (x : ℕ → Option (A × ℕ)) (tokens : List Token) (front : List A) (at : ℕ) (all : Option (List A × ℕ)) (within : at ≤ length tokens) where
-  more : (a : A) (j limit : ℕ) → x at ≡ Some (a, j) → is_comma (sign_at tokens j) ≡ true → at < j + 1 → length tokens < limit + at
+  more : (a : A) (j limit : ℕ) → x at ≡ Some (a, j) → is_sign_at mark.Comma tokens j ≡ true → at < j + 1 → length tokens < limit + at
       → with_front front (listed_within x tokens limit at) ≡ all → Reads x tokens (front ++ a ∷ []) (j + 1) all
   more a j zero found comma after big so_far = absurd (omega arith)
   more a j (suc limit) found comma after big so_far =
       (limit, omega arith, sym (with_front-first front a (listed_within x tokens limit (j + 1))) ∙ rw (found, comma) at so_far)
 
-  pub reads_more : (a : A) (j : ℕ) → x at ≡ Some (a, j) → is_comma (sign_at tokens j) ≡ true → at < j + 1
+  pub reads_more : (a : A) (j : ℕ) → x at ≡ Some (a, j) → is_sign_at mark.Comma tokens j ≡ true → at < j + 1
       → Reads x tokens front at all → Reads x tokens (front ++ a ∷ []) (j + 1) all
   reads_more a j found comma after so_far = more a j so_far.0 found comma after so_far.1 so_far.2
 
-  last : (a : A) (j limit : ℕ) → x at ≡ Some (a, j) → is_comma (sign_at tokens j) ≡ false → length tokens < limit + at
+  last : (a : A) (j limit : ℕ) → x at ≡ Some (a, j) → is_sign_at mark.Comma tokens j ≡ false → length tokens < limit + at
       → with_front front (listed_within x tokens limit at) ≡ all → Some (front ++ a ∷ [], j) ≡ all
   last a j zero found comma big so_far = absurd (omega arith)
   last a j (suc limit) found comma big so_far = rw (found, comma) at so_far
 
-  pub reads_last : (a : A) (j : ℕ) → x at ≡ Some (a, j) → is_comma (sign_at tokens j) ≡ false
+  pub reads_last : (a : A) (j : ℕ) → x at ≡ Some (a, j) → is_sign_at mark.Comma tokens j ≡ false
       → Reads x tokens front at all → Some (front ++ a ∷ [], j) ≡ all
   reads_last a j found comma so_far = last a j so_far.0 found comma so_far.1 so_far.2
-
-  none : (limit : ℕ) → x at ≡ None → length tokens < limit + at → with_front front (listed_within x tokens limit at) ≡ all → None ≡ all
-  none zero found big so_far = absurd (omega arith)
-  none (suc limit) found big so_far = rw found at so_far
-
-  pub reads_none : x at ≡ None → Reads x tokens front at all → None ≡ all
-  reads_none found so_far = none so_far.0 found so_far.1 so_far.2

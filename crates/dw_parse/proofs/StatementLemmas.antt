@@ -16,12 +16,12 @@ use Rattle.dw_model.specs.declared.statements.ColumnSpec.{ColumnSpec}
 use Rattle.dw_model.specs.declared.statements.Test.{Test}
 use Rattle.dw_model.specs.declared.statements.Statement.{Statement}
 use Rattle.dw_model.specs.declared.statements.Statement.TheVariants.{Begin, Commit, Rollback, Create, Insert, Select}
-use Rattle.dw_parse.specs.Words.{is_name, sign_of, says_in, is_open, is_close, is_comma, is_dot, comparison_of, word_at, sign_at, name_at}
-use Rattle.dw_parse.specs.Reading.{listed_at, table_at, column_at, item_at, tuple_at, named_at, created, create_behind, read_create, inserted, insert_behind, read_insert, tested, test_at, condition_at, selected, select_behind, read_select, is_rest, block_word, read_block, read_statement}
+use Rattle.dw_parse.specs.Words.{is_sign, is_sign_at, is_name, sign_of, says_in, comparison_of, word_at, sign_at, name_at}
+use Rattle.dw_parse.specs.Reading.{listed_at, table_at, column_at, item_at, tuple_at, named_at, create_of, create_after, read_create, insert_of, insert_after, read_insert, test_of, test_at, condition_at, select_of, select_after, read_select, is_rest, block_word, read_block, read_statement}
 use Rattle.dw_parse.specs.Grammar.{IsNamed, IsColumn, IsTuple, IsCondition, absent, where_is, IsRest, ended, transaction, work, Derives, begin, start, commit, end, rollback, abort, create, insert, select}
 use Rattle.dw_parse.proofs.GrammarLemmas.{Spans, and_both, heads, one_word, if_some, if_either, map_some, bind_some, close_comma, listed_sound, listed_at_complete, named_spans, named_complete, named_sound, table_complete, table_sound, column_spans, column_complete, column_sound, item_complete, item_sound, tuple_spans, tuple_complete, tuple_sound}
 
--- where a word stands, and behind the last token, is no sign
+-- where a word stands, and after the last token, is no sign
 sign_form : (f : Form) (b : Bool) → (is_name f && b) ≡ true → sign_of f ≡ None
 sign_form form.Name b e = refl
 sign_form form.Number b e = refl
@@ -42,7 +42,7 @@ past_sign p tokens i e lacks =
 past_word : (word : List ℕ) (tokens : List Token) (i : ℕ) → i ≡ length tokens → word_at word tokens i ≡ false
 past_word word tokens i e = ap (says_in word) (slice_get_past tokens i (omega arith))
 
-open_dot : (s : Option Mark) → is_open s ≡ true → is_dot s ≡ false
+open_dot : (s : Option Mark) → is_sign mark.Open s ≡ true → is_sign mark.Dot s ≡ false
 open_dot None e = refl
 open_dot (Some mark.Open) e = refl
 open_dot (Some mark.Dot) e = sym e
@@ -64,9 +64,9 @@ condition_complete tokens (absent {i} e) =
 condition_complete tokens (where_is {i} {j} w n c item e) =
     let v = item_complete tokens item in let same = eq-eqb j (length tokens) e in rw (w, n, c, v, same) refl
 
-condition_dot : (tokens : List Token) {i : ℕ} {keep : Option Test} → IsCondition tokens i keep → is_dot (sign_at tokens i) ≡ false
-condition_dot tokens (absent {i} e) = past_sign is_dot tokens i e refl
-condition_dot tokens (where_is {i} w n c item e) = word_no_sign is_dot (codes "where") tokens i w refl
+condition_dot : (tokens : List Token) {i : ℕ} {keep : Option Test} → IsCondition tokens i keep → is_sign_at mark.Dot tokens i ≡ false
+condition_dot tokens (absent {i} e) = past_sign (is_sign mark.Dot) tokens i e refl
+condition_dot tokens (where_is {i} w n c item e) = word_no_sign (is_sign mark.Dot) (codes "where") tokens i w refl
 
 columns_spans : (tokens : List Token) (i j : ℕ) (a : ColumnSpec) → IsColumn tokens i a j → Spans tokens i j
 columns_spans tokens i j a h = column_spans tokens h
@@ -87,7 +87,7 @@ apart a b other e = let same = (bytes_decides (folded a) (folded b)).1 e in cc
 only : (a b : List ℕ) (tokens : List Token) → pointwise nat_eq (folded a) (folded b) ≡ false → word_at a tokens 0 ≡ true → word_at b tokens 0 ≡ false
 only a b tokens other w = one_word a b tokens 0 (apart a b other) w
 
--- what may stand behind the first word of a block's statement
+-- what may stand after the first word of a block's statement
 or_right : (a b : Bool) → b ≡ true → a || b ≡ true
 or_right true b e = refl
 or_right false b e = e
@@ -147,14 +147,14 @@ derives_read tokens statement (create {i} {j} {name} {columns} w t table o list 
     rw (w, t, e, o, l, c, n, f) refl
 derives_read tokens statement (insert {i} {j} {name} {rows} w t table v list last) =
     let lacks = one_word (codes "insert") (codes "create") tokens 0 insert_create w in
-    let e = table_complete tokens table (word_no_sign is_dot (codes "values") tokens i v refl) in
-    let l = listed_at_complete (tuple_at tokens) (IsTuple tokens) tokens (tuple_spans tokens) (tuple_complete tokens) list (past_sign is_comma tokens j last refl) in
+    let e = table_complete tokens table (word_no_sign (is_sign mark.Dot) (codes "values") tokens i v refl) in
+    let l = listed_at_complete (tuple_at tokens) (IsTuple tokens) tokens (tuple_spans tokens) (tuple_complete tokens) list (past_sign (is_sign mark.Comma) tokens j last refl) in
     let n = eq-eqb j (length tokens) last in
     rw (lacks, w, t, e, v, l, n) refl
 derives_read tokens statement (select {i} {j} {names} {name} {keep} w list f table condition) =
     let lacks = one_word (codes "select") (codes "create") tokens 0 select_create w in
     let not = one_word (codes "select") (codes "insert") tokens 0 select_insert w in
-    let l = listed_at_complete (named_at tokens) (IsNamed tokens) tokens (names_spans tokens) (names_complete tokens) list (word_no_sign is_comma (codes "from") tokens i f refl) in
+    let l = listed_at_complete (named_at tokens) (IsNamed tokens) tokens (names_spans tokens) (names_complete tokens) list (word_no_sign (is_sign mark.Comma) (codes "from") tokens i f refl) in
     let e = table_complete tokens table (condition_dot tokens condition) in
     let k = condition_complete tokens condition in
     rw (lacks, not, w, l, f, e, k) refl
@@ -162,9 +162,9 @@ derives_read tokens statement (select {i} {j} {names} {name} {keep} w list f tab
 -- the converse
 test_sound : (tokens : List Token) (i : ℕ) (test : Test) → word_at (codes "where") tokens i ≡ true → test_at tokens i ≡ Some test → IsCondition tokens i (Some test)
 test_sound tokens i test w e =
-    let n = bind_some (λ (column : List ℕ). option_and_then (λ (comparison : Comparison). option_and_then (tested tokens column comparison) (item_at tokens (i + 3))) (comparison_of (sign_at tokens (i + 2)))) (name_at tokens (i + 1)) test e in
-    let c = bind_some (λ (comparison : Comparison). option_and_then (tested tokens n.0 comparison) (item_at tokens (i + 3))) (comparison_of (sign_at tokens (i + 2))) test n.2 in
-    let v = bind_some (tested tokens n.0 c.0) (item_at tokens (i + 3)) test c.2 in
+    let n = bind_some (λ (column : List ℕ). option_and_then (λ (comparison : Comparison). option_and_then (test_of tokens column comparison) (item_at tokens (i + 3))) (comparison_of (sign_at tokens (i + 2)))) (name_at tokens (i + 1)) test e in
+    let c = bind_some (λ (comparison : Comparison). option_and_then (test_of tokens n.0 comparison) (item_at tokens (i + 3))) (comparison_of (sign_at tokens (i + 2))) test n.2 in
+    let v = bind_some (test_of tokens n.0 c.0) (item_at tokens (i + 3)) test c.2 in
     let made : Test = record { column = n.0; comparison = c.0; literal = v.0.0 } in
     let l = if_some (v.0.1 == length tokens) (Some made) test v.2 in
     let same : made ≡ test = cc (l.1) in
@@ -188,15 +188,15 @@ condition_sound tokens i keep e =
 
 create_sound : (tokens : List Token) (s : Statement) → word_at (codes "create") tokens 0 ≡ true → read_create tokens ≡ Some s → Derives tokens s
 create_sound tokens s w e =
-    let t = if_some (word_at (codes "table") tokens 1) (option_and_then (create_behind tokens) (table_at tokens 2)) s e in
-    let b = bind_some (create_behind tokens) (table_at tokens 2) s t.1 in
-    let o = if_some (is_open (sign_at tokens b.0.1)) (option_and_then (created tokens b.0.0) (listed_at (column_at tokens) tokens (b.0.1 + 1))) s b.2 in
-    let l = bind_some (created tokens b.0.0) (listed_at (column_at tokens) tokens (b.0.1 + 1)) s o.1 in
+    let t = if_some (word_at (codes "table") tokens 1) (option_and_then (create_after tokens) (table_at tokens 2)) s e in
+    let b = bind_some (create_after tokens) (table_at tokens 2) s t.1 in
+    let o = if_some (is_sign_at mark.Open tokens b.0.1) (option_and_then (create_of tokens b.0.0) (listed_at (column_at tokens) tokens (b.0.1 + 1))) s b.2 in
+    let l = bind_some (create_of tokens b.0.0) (listed_at (column_at tokens) tokens (b.0.1 + 1)) s o.1 in
     let made : Statement = Create (record { name = b.0.0; columns = l.0.0 }) in
-    let c = if_some (is_close (sign_at tokens l.0.1) && (l.0.1 + 1 == length tokens) && nat_le (length l.0.0) 1600) (Some made) s l.2 in
+    let c = if_some (is_sign_at mark.Close tokens l.0.1 && (l.0.1 + 1 == length tokens) && nat_le (length l.0.0) 1600) (Some made) s l.2 in
     let same : made ≡ s = cc (c.1) in
-    let f = and_both (is_close (sign_at tokens l.0.1) && (l.0.1 + 1 == length tokens)) (nat_le (length l.0.0) 1600) c.0 in
-    let n = and_both (is_close (sign_at tokens l.0.1)) (l.0.1 + 1 == length tokens) f.0 in
+    let f = and_both (is_sign_at mark.Close tokens l.0.1 && (l.0.1 + 1 == length tokens)) (nat_le (length l.0.0) 1600) c.0 in
+    let n = and_both (is_sign_at mark.Close tokens l.0.1) (l.0.1 + 1 == length tokens) f.0 in
     subst (Derives tokens) same
     (create w t.0 (table_sound tokens 2 b.0 b.1) o.0
     (listed_sound (column_at tokens) (IsColumn tokens) tokens (columns_spans tokens) (column_sound tokens) (suc (length tokens)) (b.0.1 + 1) l.0 l.1)
@@ -204,10 +204,10 @@ create_sound tokens s w e =
 
 insert_sound : (tokens : List Token) (s : Statement) → word_at (codes "insert") tokens 0 ≡ true → read_insert tokens ≡ Some s → Derives tokens s
 insert_sound tokens s w e =
-    let t = if_some (word_at (codes "into") tokens 1) (option_and_then (insert_behind tokens) (table_at tokens 2)) s e in
-    let b = bind_some (insert_behind tokens) (table_at tokens 2) s t.1 in
-    let v = if_some (word_at (codes "values") tokens b.0.1) (option_and_then (inserted tokens b.0.0) (listed_at (tuple_at tokens) tokens (b.0.1 + 1))) s b.2 in
-    let l = bind_some (inserted tokens b.0.0) (listed_at (tuple_at tokens) tokens (b.0.1 + 1)) s v.1 in
+    let t = if_some (word_at (codes "into") tokens 1) (option_and_then (insert_after tokens) (table_at tokens 2)) s e in
+    let b = bind_some (insert_after tokens) (table_at tokens 2) s t.1 in
+    let v = if_some (word_at (codes "values") tokens b.0.1) (option_and_then (insert_of tokens b.0.0) (listed_at (tuple_at tokens) tokens (b.0.1 + 1))) s b.2 in
+    let l = bind_some (insert_of tokens b.0.0) (listed_at (tuple_at tokens) tokens (b.0.1 + 1)) s v.1 in
     let made : Statement = Insert b.0.0 l.0.0 in
     let n = if_some (l.0.1 == length tokens) (Some made) s l.2 in
     let same : made ≡ s = cc (n.1) in
@@ -218,9 +218,9 @@ insert_sound tokens s w e =
 
 select_sound : (tokens : List Token) (s : Statement) → word_at (codes "select") tokens 0 ≡ true → read_select tokens ≡ Some s → Derives tokens s
 select_sound tokens s w e =
-    let l = bind_some (select_behind tokens) (listed_at (named_at tokens) tokens 1) s e in
-    let f = if_some (word_at (codes "from") tokens l.0.1) (option_and_then (selected tokens l.0.0) (table_at tokens (l.0.1 + 1))) s l.2 in
-    let b = bind_some (selected tokens l.0.0) (table_at tokens (l.0.1 + 1)) s f.1 in
+    let l = bind_some (select_after tokens) (listed_at (named_at tokens) tokens 1) s e in
+    let f = if_some (word_at (codes "from") tokens l.0.1) (option_and_then (select_of tokens l.0.0) (table_at tokens (l.0.1 + 1))) s l.2 in
+    let b = bind_some (select_of tokens l.0.0) (table_at tokens (l.0.1 + 1)) s f.1 in
     let m = map_some (λ (keep : Option Test). Select (record { items = l.0.0; table = b.0.0; keep = keep })) (condition_at tokens b.0.1) s b.2 in
     subst (Derives tokens) m.2
     (select w (listed_sound (named_at tokens) (IsNamed tokens) tokens (names_spans tokens) (named_sound tokens) (suc (length tokens)) 1 l.0 l.1)

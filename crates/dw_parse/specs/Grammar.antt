@@ -1,5 +1,5 @@
--- The grammar: which statement tokens derive. Places are counted in tokens, from 0, and each rule says what the tokens from
--- one place up to another derive. The rules are this project's profile of the SQL of the Amazon Redshift guide.
+-- The grammar: which statement tokens derive. Places are counted in tokens, from 0, and each rule says what the tokens
+-- from one place up to another derive. The rules are this project's profile of the SQL of the Amazon Redshift guide.
 use Rattle.std.specs.Prelude.{◌≡◌, ℕ, ◌+◌, ◌≤◌, true, pos, neg_ℤ, Option, Some, None, List, [], ◌∷◌, length, codes}
 use Rattle.dw_lex.specs.declared.token.Token.{Token}
 use Rattle.dw_value.specs.declared.kinds.Comparison.{Comparison}
@@ -12,13 +12,14 @@ use Rattle.dw_model.specs.declared.statements.ColumnSpec.{ColumnSpec}
 use Rattle.dw_model.specs.declared.statements.Test.{Test}
 use Rattle.dw_model.specs.declared.statements.Statement.{Statement}
 use Rattle.dw_model.specs.declared.statements.Statement.TheVariants.{Begin, Commit, Rollback, Create, Insert, Select}
-use Rattle.dw_parse.specs.Words.{is_open, is_close, is_comma, is_dot, is_minus, comparison_of, in_length, word_at, sign_at, name_at, number_at, literal_at}
+use Rattle.dw_lex.specs.declared.signs.Sign.TheVariants as mark
+use Rattle.dw_parse.specs.Words.{is_sign_at, comparison_of, in_length, word_at, sign_at, name_at, number_at, literal_at}
 
 -- `x {, x}`
 pub data Listed {A : Type 0} (X : ℕ → A → ℕ → Type 0) (tokens : List Token) : ℕ → List A → ℕ → Type 0 where
   one : {i j : ℕ} {a : A} → X i a j → Listed X tokens i (a ∷ []) j
-  more : {i j k : ℕ} {a : A} {xs : List A} → X i a j → is_comma (sign_at tokens j) ≡ true → Listed X tokens (j + 1) xs k
-      → Listed X tokens i (a ∷ xs) k
+  more : {i j k : ℕ} {a : A} {xs : List A} → X i a j → is_sign_at mark.Comma tokens j ≡ true
+      → Listed X tokens (j + 1) xs k → Listed X tokens i (a ∷ xs) k
 
 -- `name`
 pub data IsNamed (tokens : List Token) : ℕ → List ℕ → ℕ → Type 0 where
@@ -27,14 +28,14 @@ pub data IsNamed (tokens : List Token) : ℕ → List ℕ → ℕ → Type 0 whe
 -- `[public .] name`
 pub data IsTable (tokens : List Token) : ℕ → List ℕ → ℕ → Type 0 where
   alone : {i : ℕ} {name : List ℕ} → name_at tokens i ≡ Some name → IsTable tokens i name (i + 1)
-  public : {i : ℕ} {name : List ℕ} → word_at (codes "public") tokens i ≡ true → is_dot (sign_at tokens (i + 1)) ≡ true
-      → name_at tokens (i + 2) ≡ Some name → IsTable tokens i name (i + 3)
+  public : {i : ℕ} {name : List ℕ} → word_at (codes "public") tokens i ≡ true
+      → is_sign_at mark.Dot tokens (i + 1) ≡ true → name_at tokens (i + 2) ≡ Some name → IsTable tokens i name (i + 3)
 
 -- `integer` or `varchar ( n )`
 pub data IsKind (tokens : List Token) : ℕ → Kind → ℕ → Type 0 where
   integer : {i : ℕ} → word_at (codes "integer") tokens i ≡ true → IsKind tokens i Int (i + 1)
-  varchar : {i n limit : ℕ} → word_at (codes "varchar") tokens i ≡ true → is_open (sign_at tokens (i + 1)) ≡ true
-      → number_at tokens (i + 2) ≡ Some n → in_length n ≡ Some limit → is_close (sign_at tokens (i + 3)) ≡ true
+  varchar : {i n limit : ℕ} → word_at (codes "varchar") tokens i ≡ true → is_sign_at mark.Open tokens (i + 1) ≡ true
+      → number_at tokens (i + 2) ≡ Some n → in_length n ≡ Some limit → is_sign_at mark.Close tokens (i + 3) ≡ true
       → IsKind tokens i (Varchar limit) (i + 4)
 
 -- `name kind`
@@ -45,13 +46,13 @@ pub data IsColumn (tokens : List Token) : ℕ → ColumnSpec → ℕ → Type 0 
 -- `[-]` digits, a text, or `null`
 pub data IsItem (tokens : List Token) : ℕ → Value → ℕ → Type 0 where
   literal : {i : ℕ} {v : Value} → literal_at tokens i ≡ Some v → IsItem tokens i v (i + 1)
-  negative : {i n : ℕ} → is_minus (sign_at tokens i) ≡ true → number_at tokens (i + 1) ≡ Some n
+  negative : {i n : ℕ} → is_sign_at mark.Minus tokens i ≡ true → number_at tokens (i + 1) ≡ Some n
       → IsItem tokens i (value.Number (neg_ℤ (pos n))) (i + 2)
 
 -- `( item {, item} )`
 pub data IsTuple (tokens : List Token) : ℕ → Row → ℕ → Type 0 where
-  tuple : {i j : ℕ} {values : List Value} → is_open (sign_at tokens i) ≡ true
-      → Listed (IsItem tokens) tokens (i + 1) values j → is_close (sign_at tokens j) ≡ true
+  tuple : {i j : ℕ} {values : List Value} → is_sign_at mark.Open tokens i ≡ true
+      → Listed (IsItem tokens) tokens (i + 1) values j → is_sign_at mark.Close tokens j ≡ true
       → IsTuple tokens i (record { values = values }) (j + 1)
 
 -- `[where name comparison item]`, up to the end
@@ -82,12 +83,14 @@ pub data Derives (tokens : List Token) : Statement → Type 0 where
   rollback : word_at (codes "rollback") tokens 0 ≡ true → IsRest tokens 1 → Derives tokens Rollback
   abort : word_at (codes "abort") tokens 0 ≡ true → IsRest tokens 1 → Derives tokens Rollback
   create : {i j : ℕ} {name : List ℕ} {columns : List ColumnSpec} → word_at (codes "create") tokens 0 ≡ true
-      → word_at (codes "table") tokens 1 ≡ true → IsTable tokens 2 name i → is_open (sign_at tokens i) ≡ true
-      → Listed (IsColumn tokens) tokens (i + 1) columns j → is_close (sign_at tokens j) ≡ true → j + 1 ≡ length tokens
-      → length columns ≤ 1600 → Derives tokens (Create (record { name = name; columns = columns }))
+      → word_at (codes "table") tokens 1 ≡ true → IsTable tokens 2 name i → is_sign_at mark.Open tokens i ≡ true
+      → Listed (IsColumn tokens) tokens (i + 1) columns j → is_sign_at mark.Close tokens j ≡ true
+      → j + 1 ≡ length tokens → length columns ≤ 1600
+      → Derives tokens (Create (record { name = name; columns = columns }))
   insert : {i j : ℕ} {name : List ℕ} {rows : List Row} → word_at (codes "insert") tokens 0 ≡ true
       → word_at (codes "into") tokens 1 ≡ true → IsTable tokens 2 name i → word_at (codes "values") tokens i ≡ true
       → Listed (IsTuple tokens) tokens (i + 1) rows j → j ≡ length tokens → Derives tokens (Insert name rows)
-  select : {i j : ℕ} {names : List (List ℕ)} {name : List ℕ} {keep : Option Test} → word_at (codes "select") tokens 0 ≡ true
-      → Listed (IsNamed tokens) tokens 1 names i → word_at (codes "from") tokens i ≡ true → IsTable tokens (i + 1) name j
-      → IsCondition tokens j keep → Derives tokens (Select (record { items = names; table = name; keep = keep }))
+  select : {i j : ℕ} {names : List (List ℕ)} {name : List ℕ} {keep : Option Test}
+      → word_at (codes "select") tokens 0 ≡ true → Listed (IsNamed tokens) tokens 1 names i
+      → word_at (codes "from") tokens i ≡ true → IsTable tokens (i + 1) name j → IsCondition tokens j keep
+      → Derives tokens (Select (record { items = names; table = name; keep = keep }))

@@ -1,5 +1,6 @@
--- What the token at a place of a statement is, as the grammar takes it. Places are counted in tokens, from 0. Behind the
--- last token nothing is found. The reserved words and the kinds' limits are this project's profile of the Amazon Redshift guide.
+-- What the token at a place of a statement is, as the grammar takes it. Places are counted in tokens, from 0. After the
+-- last token nothing is found. The reserved words and the kinds' limits are this project's profile of the Amazon
+-- Redshift guide.
 use Rattle.std.specs.Prelude.{ℕ, ◌^◌, pos, Bool, true, false, ◌&&◌, nat_eq, nat_le, nat_lt, if◌then◌else◌, Option, Some, None, List, [], ◌∷◌, slice_get, codes}
 use Rattle.std.specs.Option.{option_map, option_and_then}
 use Rattle.std.specs.List.{list_any}
@@ -41,7 +42,8 @@ reserved_words =
     ∷ codes "left" ∷ codes "like" ∷ codes "limit" ∷ codes "minus" ∷ codes "natural" ∷ codes "not" ∷ codes "null"
     ∷ codes "offset" ∷ codes "on" ∷ codes "or" ∷ codes "order" ∷ codes "over" ∷ codes "primary" ∷ codes "references"
     ∷ codes "right" ∷ codes "select" ∷ codes "set" ∷ codes "table" ∷ codes "then" ∷ codes "true" ∷ codes "union"
-    ∷ codes "unique" ∷ codes "update" ∷ codes "using" ∷ codes "values" ∷ codes "when" ∷ codes "where" ∷ codes "with" ∷ []
+    ∷ codes "unique" ∷ codes "update" ∷ codes "using" ∷ codes "values" ∷ codes "when" ∷ codes "where" ∷ codes "with"
+    ∷ []
 
 unfoldable pub is_reserved : List ℕ → Bool
 is_reserved name = list_any (λ word. pointwise nat_eq word name) reserved_words
@@ -83,25 +85,26 @@ comparison_of (Some mark.Greater) = Some test.Greater
 comparison_of (Some mark.AtLeast) = Some test.AtLeast
 comparison_of _ = None
 
-abbrev pub is_open : Option Mark → Bool
-is_open (Some mark.Open) = true
-is_open _ = false
-
-abbrev pub is_close : Option Mark → Bool
-is_close (Some mark.Close) = true
-is_close _ = false
-
-abbrev pub is_comma : Option Mark → Bool
-is_comma (Some mark.Comma) = true
-is_comma _ = false
-
-abbrev pub is_dot : Option Mark → Bool
-is_dot (Some mark.Dot) = true
-is_dot _ = false
-
-abbrev pub is_minus : Option Mark → Bool
-is_minus (Some mark.Minus) = true
-is_minus _ = false
+-- whether a sign, where there is one, is this one
+abbrev pub is_sign : Mark → Option Mark → Bool
+is_sign mark.Open (Some mark.Open) = true
+is_sign mark.Close (Some mark.Close) = true
+is_sign mark.Comma (Some mark.Comma) = true
+is_sign mark.Dot (Some mark.Dot) = true
+is_sign mark.Plus (Some mark.Plus) = true
+is_sign mark.Minus (Some mark.Minus) = true
+is_sign mark.Star (Some mark.Star) = true
+is_sign mark.Slash (Some mark.Slash) = true
+is_sign mark.Percent (Some mark.Percent) = true
+is_sign mark.Equal (Some mark.Equal) = true
+is_sign mark.Unequal (Some mark.Unequal) = true
+is_sign mark.Less (Some mark.Less) = true
+is_sign mark.AtMost (Some mark.AtMost) = true
+is_sign mark.Greater (Some mark.Greater) = true
+is_sign mark.AtLeast (Some mark.AtLeast) = true
+is_sign mark.Join (Some mark.Join) = true
+is_sign mark.Cast (Some mark.Cast) = true
+is_sign sign other = false
 
 abbrev pub says_in : List ℕ → Option Token → Bool
 says_in word None = false
@@ -112,6 +115,9 @@ word_at word tokens i = says_in word (slice_get tokens i)
 
 abbrev pub sign_at : List Token → ℕ → Option Mark
 sign_at tokens i = option_and_then (λ token. sign_of token.form) (slice_get tokens i)
+
+abbrev pub is_sign_at : Mark → List Token → ℕ → Bool
+is_sign_at sign tokens i = is_sign sign (sign_at tokens i)
 
 abbrev pub name_at : List Token → ℕ → Option (List ℕ)
 name_at tokens i = option_and_then name_of (slice_get tokens i)

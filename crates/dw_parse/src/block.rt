@@ -1,3 +1,4 @@
+//! Statements that begin or end a block.
 ghost use Rattle.std.specs.Prelude.{◌≡◌};
 ghost use Rattle.dw_parse.specs.Reading.{is_rest, block_word, read_block};
 
@@ -6,7 +7,7 @@ use dw_lex::Token;
 use dw_model::Statement;
 use dw_value::List;
 
-// Whether nothing is left from this place on, or just one of the words that may stand behind the first.
+// Whether nothing is left from this place on, or just one of the words that may stand after the first.
 fn is_rest(tokens: &List<Token>, at: usize) -> bool
     ensures { result ≡ is_rest tokens.now at }
 {

@@ -1,3 +1,5 @@
+//! Why tokens give no statement.
+
 use std::alloc::AllocError;
 
 /// Why tokens give no statement.

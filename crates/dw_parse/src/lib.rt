@@ -1,8 +1,8 @@
 //! The statement that the tokens of a text stand for.
 //!
 //! The grammar is this project's profile of the SQL of the Amazon Redshift guide: CREATE TABLE with INTEGER and VARCHAR
-//! columns, INSERT of tuples of literals, SELECT of columns of one table with at most one comparison, and the statements that begin
-//! and end a block: BEGIN, START TRANSACTION, COMMIT, END, ROLLBACK and ABORT.
+//! columns, INSERT of tuples of literals, SELECT of columns of one table with at most one comparison, and the
+//! statements that begin and end a block: BEGIN, START TRANSACTION, COMMIT, END, ROLLBACK and ABORT.
 #![tactic(auto)]
 
 mod block;
@@ -10,6 +10,7 @@ mod create;
 mod fault;
 mod insert;
 mod laws;
+mod lists;
 mod parser;
 mod select;
 mod words;

@@ -1,3 +1,4 @@
+//! The statement of tokens.
 ghost use Rattle.std.specs.Prelude.{◌≡◌, IfOk};
 ghost use Rattle.dw_parse.specs.Reading.{read_statement};
 ghost use Rattle.dw_parse.specs.Gives.{Gives};

@@ -1,38 +1,34 @@
-ghost use Rattle.std.specs.Prelude.{◌≡◌, ◌<◌, ◌≤◌, length, IfOk, IfSome};
-ghost use Rattle.dw_parse.specs.Reading.{named_at, listed_at, test_at, condition_at, read_select, select_behind};
+//! SELECT.
+ghost use Rattle.std.specs.Prelude.{◌≡◌, ◌<◌, ◌≤◌, length, IfOk};
+ghost use Rattle.dw_parse.specs.Reading.{test_at, condition_at, read_select, select_after};
 
 use crate::create::table_at;
-use crate::insert::item_at;
-use crate::words::{comparison_of, is_comma_at, name_at, sign_at, word_at};
+use crate::lists::{Element, listed_at};
+use crate::words::{comparison_of, name_at, sign_at, word_at};
 use dw_lex::Token;
 use dw_model::{Query, Statement, Test};
-use dw_value::{List, Text};
+use dw_value::{List, Text, Value};
 use std::alloc::{AllocError, Global};
 
-fn names_at(
-    alloc: Global,
-    tokens: &List<Token>,
-    start: usize,
-) -> Result<Option<(List<Text>, usize)>, AllocError>
-    requires { start ≤ length tokens.now }
-    ensures { IfOk result (λ names. names ≡ listed_at (named_at tokens.now) tokens.now start) }
-{
-    let mut names = List::new(alloc);
-    let mut at = start;
-    loop {
-        let Some(name) = name_at(alloc, tokens, at)? else {
-            return Ok(None);
-        };
-        names.push(name)?;
-        let end = at + 1;
-        if !is_comma_at(tokens, end) {
-            return Ok(Some((names, end)));
+// `name`
+impl Element for Text {
+    ghost use Rattle.dw_parse.specs.Reading.{named_at};
+
+    ghost read_at = { named_at };
+
+    fn at(
+        alloc: Global,
+        tokens: &List<Token>,
+        at: usize,
+    ) -> Result<Option<(Text, usize)>, AllocError> {
+        match name_at(alloc, tokens, at)? {
+            Some(name) => Ok(Some((name, at + 1))),
+            None => Ok(None),
         }
-        at = end + 1;
     }
 }
 
-// The test behind the word `where` at this place, up to the end.
+// The test after the word `where` at this place, up to the end.
 fn test_at(alloc: Global, tokens: &List<Token>, at: usize) -> Result<Option<Test>, AllocError>
     requires { at < length tokens.now }
     ensures { IfOk result (λ test. test ≡ test_at tokens.now at) }
@@ -47,7 +43,7 @@ fn test_at(alloc: Global, tokens: &List<Token>, at: usize) -> Result<Option<Test
     let Some(comparison) = comparison_of(Some(sign)) else {
         return Ok(None);
     };
-    let Some((literal, end)) = item_at(alloc, tokens, at + 3)? else {
+    let Some((literal, end)) = Value::at(alloc, tokens, at + 3)? else {
         return Ok(None);
     };
     if end == tokens.len() {
@@ -80,13 +76,13 @@ fn condition_at(
     }
 }
 
-fn select_behind(
+fn select_after(
     alloc: Global,
     tokens: &List<Token>,
     items: List<Text>,
     at: usize,
 ) -> Result<Option<Statement>, AllocError>
-    ensures { IfOk result (λ statement. statement ≡ select_behind tokens.now (items, at)) }
+    ensures { IfOk result (λ statement. statement ≡ select_after tokens.now (items, at)) }
 {
     if !word_at(tokens, at, "from") {
         return Ok(None);
@@ -108,8 +104,8 @@ pub fn read_select(alloc: Global, tokens: &List<Token>) -> Result<Option<Stateme
     requires { 1 ≤ length tokens.now }
     ensures { IfOk result (λ statement. statement ≡ read_select tokens.now) }
 {
-    match names_at(alloc, tokens, 1)? {
-        Some((names, end)) => select_behind(alloc, tokens, names, end),
+    match listed_at::<Text>(alloc, tokens, 1)? {
+        Some((names, end)) => select_after(alloc, tokens, names, end),
         None => Ok(None),
     }
 }

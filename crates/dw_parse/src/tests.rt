@@ -1,3 +1,4 @@
+//! Tests of the grammar.
 use super::{ParseFault, parse};
 use dw_lex::tokens;
 use dw_model::Statement;

@@ -1,6 +1,8 @@
+//! What the token at a place is, as the grammar takes it.
 ghost use Rattle.std.specs.Prelude.{◌≡◌, ◌<◌, ◌^◌, length, slice_get, true, IfOk, IfSome, OnSome};
 ghost use Rattle.std.specs.Option.{option_copied};
-ghost use Rattle.dw_parse.specs.Words.{is_open, is_close, is_comma, is_dot, is_minus, sign_of, says, is_reserved, name_of, number_of, in_length, literal_of, comparison_of, word_at, sign_at, name_at, number_at, literal_at};
+ghost use Rattle.dw_parse.specs.Words.{sign_of, says, is_reserved, name_of, number_of, in_length, literal_of};
+ghost use Rattle.dw_parse.specs.Words.{comparison_of, word_at, sign_at, is_sign_at, name_at, number_at, literal_at};
 
 use dw_lex::{Form, Sign, Token};
 use dw_value::{Comparison, List, Text, Value};
@@ -199,49 +201,13 @@ pub fn sign_at(tokens: &List<Token>, at: usize) -> Option<Sign>
     }
 }
 
-/// Whether `(` is at a place.
-pub fn is_open_at(tokens: &List<Token>, at: usize) -> bool
-    ensures value { result ≡ is_open (sign_at tokens.now at) }
+/// Whether this sign is at a place.
+pub fn is_sign_at(tokens: &List<Token>, at: usize, sign: Sign) -> bool
+    ensures value { result ≡ is_sign_at sign tokens.now at }
     ensures within { result ≡ true → at < length tokens.now }
     ensures few { length tokens.now < 2 ^ 64 }
 {
-    matches!(sign_at(tokens, at), Some(Sign::Open))
-}
-
-/// Whether `)` is at a place.
-pub fn is_close_at(tokens: &List<Token>, at: usize) -> bool
-    ensures value { result ≡ is_close (sign_at tokens.now at) }
-    ensures within { result ≡ true → at < length tokens.now }
-    ensures few { length tokens.now < 2 ^ 64 }
-{
-    matches!(sign_at(tokens, at), Some(Sign::Close))
-}
-
-/// Whether `,` is at a place.
-pub fn is_comma_at(tokens: &List<Token>, at: usize) -> bool
-    ensures value { result ≡ is_comma (sign_at tokens.now at) }
-    ensures within { result ≡ true → at < length tokens.now }
-    ensures few { length tokens.now < 2 ^ 64 }
-{
-    matches!(sign_at(tokens, at), Some(Sign::Comma))
-}
-
-/// Whether `.` is at a place.
-pub fn is_dot_at(tokens: &List<Token>, at: usize) -> bool
-    ensures value { result ≡ is_dot (sign_at tokens.now at) }
-    ensures within { result ≡ true → at < length tokens.now }
-    ensures few { length tokens.now < 2 ^ 64 }
-{
-    matches!(sign_at(tokens, at), Some(Sign::Dot))
-}
-
-/// Whether `-` is at a place.
-pub fn is_minus_at(tokens: &List<Token>, at: usize) -> bool
-    ensures value { result ≡ is_minus (sign_at tokens.now at) }
-    ensures within { result ≡ true → at < length tokens.now }
-    ensures few { length tokens.now < 2 ^ 64 }
-{
-    matches!(sign_at(tokens, at), Some(Sign::Minus))
+    sign_at(tokens, at) == Some(sign)
 }
 
 /// The name at a place, in lower case.

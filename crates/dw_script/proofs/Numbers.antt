@@ -9,7 +9,7 @@ use Rattle.std.proofs.lemmas.Bool.Decides.{nat_tests}
 use Rattle.std.proofs.lemmas.Str.{IsUtf8-from_ascii}
 use Rattle.std.proofs.lemmas.Str.Ascii.{IsAscii-nil, IsAscii-cons}
 use Rattle.std.proofs.lemmas.Str.Parse.{IsNumeralModel, numerals_by_value, parse_digits}
-use Rattle.dw_script.specs.declared.schedule.TheConstants.{ZERO}
+use Rattle.dw_script.specs.Characters.{digit_zero}
 use Rattle.dw_script.specs.Schedule.{number_up_to}
 
 digit_small : (b : ℕ) → is_ascii_digit b ≡ true → b < 128
@@ -28,7 +28,7 @@ none_by false digits least most n e = refl
 not_digits : (bytes : List ℕ) (limit : ℕ) → list_all is_ascii_digit bytes ≡ false → number_up_to limit bytes ≡ None
 not_digits [] limit none = refl
 not_digits (d ∷ ds) limit none =
-    none_by (not (eqb d ZERO)) (list_all is_ascii_digit (d ∷ ds)) (leb 1 (digits_value 10 (d ∷ ds))) (leb (digits_value 10 (d ∷ ds)) limit) (digits_value 10 (d ∷ ds)) none
+    none_by (not (eqb d digit_zero)) (list_all is_ascii_digit (d ∷ ds)) (leb 1 (digits_value 10 (d ∷ ds))) (leb (digits_value 10 (d ∷ ds)) limit) (digits_value 10 (d ∷ ds)) none
 
 no_text : (bytes : List ℕ) (limit : ℕ) (digits : Bool) → list_all is_ascii_digit bytes ≡ digits → ¬ (IsUtf8 bytes) → number_up_to limit bytes ≡ None
 no_text bytes limit true all none = absurd (none (IsUtf8-from_ascii bytes (digits_ascii bytes all)))
@@ -56,7 +56,7 @@ number-past (d ∷ ds) limit error fits all parsed = past digits_long (parse_dig
 
     past : 0 < length (d ∷ ds) → ¬ ((0 < length (d ∷ ds)) × (digits_value 10 (d ∷ ds) < 2 ^ 32)) → number_up_to limit (d ∷ ds) ≡ None
     past long none =
-        past_by (not (eqb d ZERO)) (list_all is_ascii_digit (d ∷ ds)) (leb 1 (digits_value 10 (d ∷ ds))) (leb (digits_value 10 (d ∷ ds)) limit) (digits_value 10 (d ∷ ds))
+        past_by (not (eqb d digit_zero)) (list_all is_ascii_digit (d ∷ ds)) (leb 1 (digits_value 10 (d ∷ ds))) (leb (digits_value 10 (d ∷ ds)) limit) (digits_value 10 (d ∷ ds))
         (great (leb (digits_value 10 (d ∷ ds)) limit) refl)
       where
         great : (test : Bool) → leb (digits_value 10 (d ∷ ds)) limit ≡ test → leb (digits_value 10 (d ∷ ds)) limit ≡ false

@@ -1,7 +1,7 @@
 -- The parts of what is left of a script, one byte after the other.
 use Rattle.std.proofs.Common.{◌≡◌, ℕ, ◌+◌, ◌-◌, ◌<◌, ◌≤◌, Bool, true, false, List, [], ◌∷◌, ◌++◌, length, get_or, take, drop, map, refl, sym, ap, ◌∙◌, append_assoc, arith}
 use Rattle.std.specs.List.{slice_split, onto_first}
-use Rattle.std.proofs.lemmas.List.{append-nil, take_more, drop_more, at_drop_all, get_or-drop, length-drop, take_all}
+use Rattle.std.proofs.lemmas.List.{append-nil, take_more, drop_more, get_or-drop, length-drop}
 use Rattle.dw_script.specs.declared.place.Place.{Place}
 use Rattle.dw_script.specs.declared.place.Place.TheVariants.{Outside}
 use Rattle.dw_script.specs.Place.{after}
@@ -58,9 +58,6 @@ to_come-ends place at byte front rest h =
     ∙ statements_of-cons front others
     ∙ ap (λ parts. statements_of (front ∷ []) ++ statements_of parts) (sym (onto_front-nil (after place at byte) (at + 1) rest))
 
-pub to_come-all : (place : Place) (at : ℕ) (front : List ℕ) → to_come place at front [] ≡ statements_of (front ∷ [])
-to_come-all place at front = ap (λ (part : List ℕ). statements_of (part ∷ [])) (append-nil front)
-
 pub to_come-start : (bytes : List ℕ) → to_come Outside 0 [] bytes ≡ statements_of (parts_from Outside 0 bytes)
 to_come-start bytes = ap statements_of (onto_front-nil Outside 0 bytes)
 
@@ -88,12 +85,3 @@ to_come-next place begin at bytes lt h =
     let z : at + 1 - (at + 1) ≡ 0 = omega arith in
     ap (to_come place at (take (at - begin) (drop begin bytes))) (drop_more bytes at 0 lt)
     ∙ rw z (to_come-ends place at (get_or bytes at 0) (take (at - begin) (drop begin bytes)) (drop (at + 1) bytes) h)
-
--- at the end the part so far is all that is left
-pub to_come-last : (place : Place) (begin at : ℕ) (bytes : List ℕ) → at ≡ length bytes → to_come place at (take (at - begin) (drop begin bytes)) (drop at bytes) ≡ statements_of (drop begin bytes ∷ [])
-to_come-last place begin at bytes e =
-    let long : length (drop begin bytes) ≤ at - begin = rw length-drop (omega arith) in
-    let none : drop at bytes ≡ [] = at_drop_all (λ (rest : List ℕ). rest) bytes at (omega arith) in
-    ap (to_come place at (take (at - begin) (drop begin bytes))) none
-    ∙ to_come-all place at (take (at - begin) (drop begin bytes))
-    ∙ ap (λ (part : List ℕ). statements_of (part ∷ [])) (take_all (at - begin) (drop begin bytes) long)

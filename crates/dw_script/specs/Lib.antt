@@ -1,3 +1,4 @@
+pub mod Characters
 pub mod Place
 pub mod Statements
 pub mod Comments

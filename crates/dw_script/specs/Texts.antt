@@ -1,17 +1,17 @@
 -- Texts as SQL writes them, and causes further on.
 use Rattle.std.specs.Prelude.{ℕ, ◌+◌, List, [], ◌∷◌, ◌++◌, ◌==◌, if◌then◌else◌}
-use Rattle.dw_script.specs.declared.place.TheConstants.{QUOTE}
+use Rattle.dw_script.specs.Characters.{quote}
 use Rattle.dw_script.specs.declared.script.ScriptCause.{ScriptCause}
 use Rattle.dw_script.specs.declared.script.ScriptCause.TheVariants.{NotUtf8, OpenText, OpenComment, TooMany}
 
 -- a text with each quote written twice
 abbrev pub doubled : List ℕ → List ℕ
 doubled [] = []
-doubled (byte ∷ text) = if byte == QUOTE then QUOTE ∷ QUOTE ∷ doubled text else byte ∷ doubled text
+doubled (byte ∷ text) = if byte == quote then quote ∷ quote ∷ doubled text else byte ∷ doubled text
 
 -- a text in single quotes
 abbrev pub quoted : List ℕ → List ℕ
-quoted text = QUOTE ∷ doubled text ++ QUOTE ∷ []
+quoted text = quote ∷ doubled text ++ quote ∷ []
 
 -- a cause whose place is so many bytes further on
 abbrev pub further : ℕ → ScriptCause → ScriptCause

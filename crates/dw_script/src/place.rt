@@ -1,6 +1,7 @@
+//! Where one stands in a script: outside, in a text, in a quoted name or in a comment.
 ghost use Rattle.std.specs.Prelude.{◌≡◌, ◌+◌, ◌<◌, ◌≤◌, length};
 ghost use Rattle.dw_script.specs.Place.{begun, commented, closed, after, nested_in, open_part, place_after};
-ghost use Rattle.dw_script.specs.Statements.{is_blank, held, begins_statement, ends_statement};
+ghost use Rattle.dw_script.specs.Statements.{is_blank, pending_mark, begins_statement, ends_statement};
 
 use crate::script::ScriptCause;
 
@@ -19,35 +20,35 @@ pub(crate) const DASH: u8 = b'-';
 /// Ends a line.
 pub(crate) const LINE_FEED: u8 = b'\n';
 
-/// With a star behind it begins a block comment, and with a star before it ends one.
+/// With a star after it begins a block comment, and with a star before it ends one.
 pub(crate) const SLASH: u8 = b'/';
 
 /// Stands beside the slash that begins or ends a block comment.
 pub(crate) const STAR: u8 = b'*';
 
-/// Where one stands in a script, behind some of its bytes.
+/// Where one stands in a script, after some of its bytes.
 #[derive(Clone, Copy)]
 pub(crate) enum Place {
     /// In no text, quoted name or comment.
     Outside,
     /// In the text that begins at this byte.
     InText { begins: usize },
-    /// Behind a quote in the text that begins at this byte. The text ends there, unless another quote follows.
-    BehindQuote { begins: usize },
+    /// After a quote in the text that begins at this byte. The text ends there, unless another quote follows.
+    AfterQuote { begins: usize },
     /// In the quoted name that begins at this byte.
     InName { begins: usize },
-    /// Outside, behind a dash, with which another one begins a comment.
-    BehindDash,
+    /// Outside, after a dash, with which another one begins a comment.
+    AfterDash,
     /// In a comment to the end of the line.
     InLine,
-    /// Outside, behind the slash at this byte, with which a star begins a comment.
-    BehindSlash { begins: usize },
+    /// Outside, after the slash at this byte, with which a star begins a comment.
+    AfterSlash { begins: usize },
     /// In the block comment that begins at this byte, and in so many others inside of it.
     InBlock { begins: usize, nested: usize },
-    /// In a block comment, behind a star, with which a slash ends the innermost.
-    BehindStar { begins: usize, nested: usize },
-    /// In a block comment, behind a slash, with which a star begins one more inside of it.
-    BehindInnerSlash { begins: usize, nested: usize },
+    /// In a block comment, after a star, with which a slash ends the innermost.
+    AfterStar { begins: usize, nested: usize },
+    /// In a block comment, after a slash, with which a star begins one more inside of it.
+    AfterInnerSlash { begins: usize, nested: usize },
 }
 
 /// Whether a byte is a space, a tab, an LF or a CR.
@@ -57,31 +58,31 @@ fn is_blank(byte: u8) -> bool
     matches!(byte, b' ' | b'\t' | b'\n' | b'\r')
 }
 
-/// Where one stands behind `byte`, which is at `at`, outside.
+/// Where one stands after `byte`, which is at `at`, outside.
 fn begun(at: usize, byte: u8) -> Place
     ensures { result ≡ begun at byte }
 {
     match byte {
         QUOTE => Place::InText { begins: at },
         NAME_QUOTE => Place::InName { begins: at },
-        DASH => Place::BehindDash,
-        SLASH => Place::BehindSlash { begins: at },
+        DASH => Place::AfterDash,
+        SLASH => Place::AfterSlash { begins: at },
         _ => Place::Outside,
     }
 }
 
-/// Where one stands behind `byte` in a block comment.
+/// Where one stands after `byte` in a block comment.
 fn commented(begins: usize, nested: usize, byte: u8) -> Place
     ensures { result ≡ commented begins nested byte }
 {
     match byte {
-        STAR => Place::BehindStar { begins, nested },
-        SLASH => Place::BehindInnerSlash { begins, nested },
+        STAR => Place::AfterStar { begins, nested },
+        SLASH => Place::AfterInnerSlash { begins, nested },
         _ => Place::InBlock { begins, nested },
     }
 }
 
-/// Where one stands behind the end of the innermost of the comments in which one stands.
+/// Where one stands after the end of the innermost of the comments in which one stands.
 fn closed(begins: usize, nested: usize) -> Place
     ensures { result ≡ closed begins nested }
 {
@@ -92,28 +93,28 @@ fn closed(begins: usize, nested: usize) -> Place
 }
 
 impl Place {
-    /// Where one stands behind `byte`, which is at `at`, if one stood here before it.
+    /// Where one stands after `byte`, which is at `at`, if one stood here before it.
     pub(crate) fn after(self, at: usize, byte: u8) -> Place
         requires { nested_in self < usize.MAX }
         ensures place { result ≡ after self at byte }
         ensures deeper { nested_in result ≤ nested_in self + 1 }
     {
         match (self, byte) {
-            (Place::InText { begins }, QUOTE) => Place::BehindQuote { begins },
-            (Place::BehindQuote { begins }, QUOTE) => Place::InText { begins },
+            (Place::InText { begins }, QUOTE) => Place::AfterQuote { begins },
+            (Place::AfterQuote { begins }, QUOTE) => Place::InText { begins },
             (Place::InName { .. }, NAME_QUOTE) | (Place::InLine, LINE_FEED) => Place::Outside,
-            (Place::BehindDash, DASH) => Place::InLine,
-            (Place::BehindSlash { begins }, STAR) => Place::InBlock { begins, nested: 0 },
-            (Place::BehindStar { begins, nested }, SLASH) => closed(begins, nested),
-            (Place::BehindInnerSlash { begins, nested }, STAR) => {
+            (Place::AfterDash, DASH) => Place::InLine,
+            (Place::AfterSlash { begins }, STAR) => Place::InBlock { begins, nested: 0 },
+            (Place::AfterStar { begins, nested }, SLASH) => closed(begins, nested),
+            (Place::AfterInnerSlash { begins, nested }, STAR) => {
                 let nested = nested + 1;
                 Place::InBlock { begins, nested }
             }
             (Place::InText { .. } | Place::InName { .. } | Place::InLine, _) => self,
             (
                 Place::InBlock { begins, nested }
-                | Place::BehindStar { begins, nested }
-                | Place::BehindInnerSlash { begins, nested },
+                | Place::AfterStar { begins, nested }
+                | Place::AfterInnerSlash { begins, nested },
                 _,
             ) => commented(begins, nested, byte),
             _ => begun(at, byte),
@@ -126,19 +127,19 @@ impl Place {
     {
         match self {
             Place::Outside
-            | Place::BehindQuote { .. }
-            | Place::BehindDash
-            | Place::BehindSlash { .. } => byte == SEMICOLON,
+            | Place::AfterQuote { .. }
+            | Place::AfterDash
+            | Place::AfterSlash { .. } => byte == SEMICOLON,
             _ => false,
         }
     }
 
-    /// How many bytes one stands behind that belong to a comment only if the next byte makes them one: a dash or a slash.
-    pub(crate) fn held(self) -> usize
-        ensures { result ≡ length (held self) }
+    /// How many of the bytes just passed belong to a comment only if the next byte makes them one: a dash or a slash.
+    pub(crate) fn pending_mark_len(self) -> usize
+        ensures { result ≡ length (pending_mark self) }
     {
         match self {
-            Place::BehindDash | Place::BehindSlash { .. } => 1,
+            Place::AfterDash | Place::AfterSlash { .. } => 1,
             _ => 0,
         }
     }
@@ -149,8 +150,8 @@ impl Place {
     {
         match self {
             Place::Outside => !(is_blank(byte) || byte == DASH || byte == SLASH),
-            Place::BehindDash => byte != DASH,
-            Place::BehindSlash { .. } => byte != STAR,
+            Place::AfterDash => byte != DASH,
+            Place::AfterSlash { .. } => byte != STAR,
             _ => false,
         }
     }
@@ -165,8 +166,8 @@ impl Place {
                 place: begins as u64,
             }),
             Place::InBlock { begins, .. }
-            | Place::BehindStar { begins, .. }
-            | Place::BehindInnerSlash { begins, .. } => Some(ScriptCause::OpenComment {
+            | Place::AfterStar { begins, .. }
+            | Place::AfterInnerSlash { begins, .. } => Some(ScriptCause::OpenComment {
                 place: begins as u64,
             }),
             _ => None,
@@ -174,7 +175,7 @@ impl Place {
     }
 }
 
-/// Where one stands behind all of `bytes`.
+/// Where one stands after all of `bytes`.
 pub(crate) fn place_after(bytes: &[u8]) -> Place
     ensures { result ≡ place_after bytes.now }
 {

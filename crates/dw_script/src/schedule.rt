@@ -1,8 +1,9 @@
+//! Schedules, and how they are read.
 ghost use Rattle.std.specs.Prelude.{◌≡◌, ◌≤◌, ◌<◌, ◌==◌, [], ◌∷◌, Ok, Err, length, IfOk, IfErr, IfSome, IfNone, OnOk, All};
 ghost use Rattle.std.specs.Char.{is_ascii_digit};
 ghost use Rattle.std.specs.List.{list_all, position, slice_split};
 ghost use Rattle.std.specs.Str.Lines.{strip_carriage_return};
-ghost use Rattle.dw_script.specs.Schedule.{number_up_to, move_by, move_of, words_on, ReadsOn, EndsAt, read_schedule, IsMove, IfBadLine};
+ghost use Rattle.dw_script.specs.Schedule.{most_moves, number_up_to, move_by, move_of, words_on, ReadsOn, EndsAt, read_schedule, IsMove, IfBadLine};
 ghost use Rattle.dw_script.specs.declared.schedule.ScheduleFault.TheVariants.{Memory};
 
 use crate::place::LINE_FEED;
@@ -11,10 +12,10 @@ use std::alloc::{AllocError, AllocFailed, Global};
 use thiserror::Error;
 
 /// The most moves that a schedule may have. The limit is this project's own.
-pub const MAX_MOVES: usize = 10_000;
+const MAX_MOVES: usize = 10_000;
 
 /// The most steps that one move may have. The limit is this project's own.
-pub const MAX_COUNT: u32 = 10_000;
+const MAX_COUNT: u32 = 10_000;
 
 /// Begins a line that is a comment.
 pub(crate) const NUMBER_SIGN: u8 = b'#';
@@ -33,21 +34,21 @@ pub(crate) const ZERO: u8 = b'0';
 pub struct Move {
     /// The session, counted from 1.
     pub session: u32,
-    /// How many steps it takes: from 1 to `MAX_COUNT`.
+    /// How many steps it takes: from 1 to 10,000.
     pub count: u32,
 }
 
 /// Which session takes the next steps.
 #[derive(Debug, Drop)]
 pub struct Schedule {
-    /// The moves in their order, at most `MAX_MOVES`.
+    /// The moves in their order, at most 10,000.
     pub moves: List<Move>,
 }
 
 /// Why a schedule was not read.
 #[derive(Clone, Copy, Debug, PartialEq, Eq, Drop, Error)]
 pub enum ScheduleFault {
-    /// This line, counted from 1, is the first that is not of the form of a line, or has the move behind the last that a
+    /// This line, counted from 1, is the first that is not of the form of a line, or has the move after the last that a
     /// schedule may have.
     #[error("bad schedule at line {line}")]
     Bad { line: u64 },
@@ -74,24 +75,24 @@ impl<T: Drop> From<AllocFailed<T>> for ScheduleFault {
 
 /// Reads a schedule for sessions from 1 to `sessions`, whose moves are put into memory of `alloc`.
 ///
-/// Lines end with LF or CR LF, and the last one needs no end. A line is empty, or begins with `#` and counts for nothing,
-/// or is words parted by single spaces. A word is `S`, a session, which takes one step, or `S*K`, a session and a count of
-/// steps from 1 to `MAX_COUNT`, in decimal without leading zeros. The form is this project's own.
+/// Lines end with LF or CR LF, and the last one needs no end. A line is empty, or begins with `#` and counts for
+/// nothing, or is words parted by single spaces. A word is `S`, a session, which takes one step, or `S*K`, a session
+/// and a count of steps from 1 to 10,000, in decimal without leading zeros. The form is this project's own.
 ///
-/// `Bad` comes exactly where a line is of another form, or has one word more than `MAX_MOVES` words of the whole schedule,
+/// `Bad` comes exactly where a line is of another form, or has one word more than 10,000 words of the whole schedule,
 /// with the first such line, unless memory runs out first. The time is linear in the bytes.
 pub fn read_schedule(alloc: Global, bytes: &[u8], sessions: u32) -> Result<Schedule, ScheduleFault>
     ensures read { IfOk result (λ schedule. read_schedule sessions bytes.now ≡ Ok schedule.moves) }
     ensures moves { IfOk result (λ schedule. All (IsMove sessions) schedule.moves) }
-    ensures few { IfOk result (λ schedule. length schedule.moves ≤ MAX_MOVES) }
+    ensures few { IfOk result (λ schedule. length schedule.moves ≤ most_moves) }
     ensures bad { IfErr result (λ fault. IfBadLine fault (λ line. read_schedule sessions bytes.now ≡ Err line)) }
 {
     let mut moves = List::new(alloc);
     let mut number = 1;
     let mut rest = bytes;
-    while let Some((line, behind)) = cut_at(rest, LINE_FEED) {
+    while let Some((line, tail)) = cut_at(rest, LINE_FEED) {
         read_line(&mut moves, without_return(line), number, sessions)?;
-        rest = behind;
+        rest = tail;
         number += 1;
     }
     read_line(&mut moves, rest, number, sessions)?;
@@ -108,7 +109,7 @@ fn without_return(line: &[u8]) -> &[u8]
     }
 }
 
-/// Puts the moves of the words of one line behind the others.
+/// Puts the moves of the words of one line after the others.
 fn read_line(
     moves: &mut List<Move>,
     line: &[u8],
@@ -116,21 +117,22 @@ fn read_line(
     sessions: u32,
 ) -> Result<(), ScheduleFault>
     ensures ok { OnOk result (ReadsOn sessions (words_on number line.now) moves.old moves.new) }
-    ensures bad { IfErr result (λ fault. IfBadLine fault (λ bad. EndsAt sessions (words_on number line.now) moves.old bad)) }
+    ensures bad { IfErr result (λ fault.
+        IfBadLine fault (λ bad. EndsAt sessions (words_on number line.now) moves.old bad)) }
 {
     if matches!(line.first(), None | Some(&NUMBER_SIGN)) {
         return Ok(());
     }
     let mut rest = line;
-    while let Some((word, behind)) = cut_at(rest, SPACE) {
+    while let Some((word, tail)) = cut_at(rest, SPACE) {
         push_move(moves, word, number, sessions)?;
-        rest = behind;
+        rest = tail;
     }
     push_move(moves, rest, number, sessions)?;
     Ok(())
 }
 
-/// Puts the move of one word behind the others, if the word says one and the schedule may have it.
+/// Puts the move of one word after the others, if the word says one and the schedule may have it.
 fn push_move(
     moves: &mut List<Move>,
     word: &[u8],
@@ -138,7 +140,8 @@ fn push_move(
     sessions: u32,
 ) -> Result<(), ScheduleFault>
     ensures ok { OnOk result (ReadsOn sessions ((number, word.now) ∷ []) moves.old moves.new) }
-    ensures bad { IfErr result (λ fault. IfBadLine fault (λ bad. EndsAt sessions ((number, word.now) ∷ []) moves.old bad)) }
+    ensures bad { IfErr result (λ fault.
+        IfBadLine fault (λ bad. EndsAt sessions ((number, word.now) ∷ []) moves.old bad)) }
 {
     let bad = ScheduleFault::Bad { line: number };
     if moves.len() >= MAX_MOVES {
@@ -183,7 +186,7 @@ fn first_place(bytes: &[u8], wanted: u8) -> Option<usize>
     bytes.iter().position(|byte| *byte == wanted)
 }
 
-/// What stands before this byte where it stands first, and what behind.
+/// What stands before this byte where it stands first, and what after.
 fn cut_at(bytes: &[u8], wanted: u8) -> Option<(&[u8], &[u8])>
     ensures cut { IfSome result (λ cut. slice_split (λ byte. byte == wanted) bytes.now
         ≡ cut.0.now ∷ slice_split (λ byte. byte == wanted) cut.1.now) }

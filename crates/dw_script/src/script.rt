@@ -1,3 +1,4 @@
+//! Scripts, and why one cannot be read.
 ghost use Rattle.std.specs.Prelude.{◌≡◌};
 ghost use Rattle.dw_script.specs.declared.script.ScriptFault.TheVariants.{Memory};
 
@@ -12,8 +13,8 @@ pub const MAX_STATEMENTS: usize = 100_000;
 /// The statements of a script.
 #[derive(Debug, Drop)]
 pub struct Script {
-    /// The bytes of each statement, in order, from its first byte on that is no blank and in no comment, without the `;`
-    /// that ends it.
+    /// The bytes of each statement, in order, from its first byte on that is no blank and in no comment, without the
+    /// `;` that ends it.
     pub statements: List<List<u8>>,
 }
 
@@ -24,9 +25,10 @@ pub enum ScriptCause {
     NotUtf8 { place: u64 },
     /// The text or the quoted name that begins at the byte `place`, counted from 0, is not closed.
     OpenText { place: u64 },
-    /// The block comment that begins at the byte `place`, counted from 0, is not closed. Of nested ones it is the outermost.
+    /// The block comment that begins at the byte `place`, counted from 0, is not closed. Of nested ones it is the
+    /// outermost.
     OpenComment { place: u64 },
-    /// The script has more than `MAX_STATEMENTS` statements.
+    /// The script has more than 100,000 statements.
     TooMany,
 }
 

@@ -1,5 +1,6 @@
+//! A script cut into its statements.
 ghost use Rattle.std.specs.Prelude.{◌≡◌, [], ◌∷◌, ◌++◌, ◌≤◌, ◌<◌, length, None, Some, IfOk, IfErr, OnOk, All, IsUtf8};
-ghost use Rattle.dw_script.specs.Statements.{IfBad, content, statements_of, statements, script_cause};
+ghost use Rattle.dw_script.specs.Statements.{IfBad, content, most_statements, statements_of, statements, script_cause};
 
 use crate::place::{Place, place_after};
 use crate::script::{MAX_STATEMENTS, Script, ScriptCause, ScriptFault};
@@ -9,20 +10,20 @@ use std::alloc::Global;
 /// Cuts a script into its statements, whose bytes are copied once, into memory of `alloc`.
 ///
 /// Each `;` outside of texts, quoted names and comments ends a statement, and so does the script's end. A text is in
-/// single quotes, in which two quotes in a row stand for one and a backslash is an ordinary character; a quoted name is in
-/// double quotes, and ends at the next one. A comment is from `--` to the end of the line, which LF alone ends, or from
-/// `/*` to `*/`, and these nest. In a text, a quoted name or a comment to the end of the line nothing else begins, and in a
-/// block comment only `/*` and `*/` count. Statements end as in the SQL standard, where two double quotes in a row stand
-/// for one in a quoted name: here they end one and begin the next, which comes to the same.
+/// single quotes, in which two quotes in a row stand for one and a backslash is an ordinary character; a quoted name is
+/// in double quotes, and ends at the next one. A comment is from `--` to the end of the line, which LF alone ends, or
+/// from `/*` to `*/`, and these nest. In a text, a quoted name or a comment to the end of the line nothing else begins,
+/// and in a block comment only `/*` and `*/` count. Statements end as in the SQL standard, where two double quotes in a
+/// row stand for one in a quoted name: here they end one and begin the next, which comes to the same.
 ///
-/// Spaces, tabs, LF and CR are blanks. A statement begins at its first byte that is no blank and in no comment, and what
-/// stands in it from there on stays, comments too. Blanks and comments alone are no statement.
+/// Spaces, tabs, LF and CR are blanks. A statement begins at its first byte that is no blank and in no comment, and
+/// what stands in it from there on stays, comments too. Blanks and comments alone are no statement.
 ///
 /// `Bad` comes exactly where the script has a cause, unless memory runs out first. The time is linear in the bytes.
 pub fn split(alloc: Global, bytes: &[u8]) -> Result<Script, ScriptFault>
     ensures read { IfOk result (λ script. script_cause bytes.now ≡ None) }
     ensures statements { IfOk result (λ script. script.statements ≡ statements bytes.now) }
-    ensures few { IfOk result (λ script. length script.statements ≤ MAX_STATEMENTS) }
+    ensures few { IfOk result (λ script. length script.statements ≤ most_statements) }
     ensures utf8 { IfOk result (λ script. All IsUtf8 script.statements) }
     ensures bad { IfErr result (λ fault. IfBad fault (λ cause. script_cause bytes.now ≡ Some cause)) }
 {
@@ -39,9 +40,9 @@ pub fn split(alloc: Global, bytes: &[u8]) -> Result<Script, ScriptFault>
 /// Cuts a script in which nothing is open.
 fn cut(alloc: Global, bytes: &[u8]) -> Result<Script, ScriptFault>
     ensures statements { IfOk result (λ script. script.statements ≡ statements bytes.now) }
-    ensures few { IfOk result (λ script. length script.statements ≤ MAX_STATEMENTS) }
+    ensures few { IfOk result (λ script. length script.statements ≤ most_statements) }
     ensures bad { IfErr result (λ fault. IfBad fault (λ cause.
-        (cause ≡ ScriptCause.TooMany) × (MAX_STATEMENTS < length (statements bytes.now)))) }
+        (cause ≡ ScriptCause.TooMany) × (most_statements < length (statements bytes.now)))) }
 {
     let mut statements = List::new(alloc);
     let mut place = Place::Outside;
@@ -57,17 +58,17 @@ fn cut(alloc: Global, bytes: &[u8]) -> Result<Script, ScriptFault>
     Ok(Script { statements })
 }
 
-/// Puts the statement of one part of a script behind the others, if the part is more than blanks and comments.
+/// Puts the statement of one part of a script after the others, if the part is more than blanks and comments.
 fn push_statement(
     alloc: Global,
     statements: &mut List<List<u8>>,
     part: &[u8],
 ) -> Result<(), ScriptFault>
-    requires { length statements.old ≤ MAX_STATEMENTS }
+    requires { length statements.old ≤ most_statements }
     ensures ok { OnOk result (statements.new ≡ statements.old ++ statements_of (part.now ∷ [])) }
-    ensures few { OnOk result (length statements.new ≤ MAX_STATEMENTS) }
+    ensures few { OnOk result (length statements.new ≤ most_statements) }
     ensures bad { IfErr result (λ fault. IfBad fault (λ cause. (cause ≡ ScriptCause.TooMany)
-        × (MAX_STATEMENTS < length (statements.old ++ statements_of (part.now ∷ []))))) }
+        × (most_statements < length (statements.old ++ statements_of (part.now ∷ []))))) }
 {
     let content = content(part);
     if content.is_empty() {
@@ -88,9 +89,9 @@ fn content(part: &[u8]) -> &[u8]
     let mut place = Place::Outside;
     for (at, byte) in part.iter().enumerate() {
         if place.begins_statement(*byte) {
-            return &part[at - place.held()..];
+            return &part[at - place.pending_mark_len()..];
         }
         place = place.after(at, *byte);
     }
-    &part[part.len() - place.held()..]
+    &part[part.len() - place.pending_mark_len()..]
 }

@@ -1,3 +1,4 @@
+//! What a program ends with.
 ghost use Rattle.std.specs.Prelude.{◌≡◌};
 ghost use Rattle.dw_script.specs.Status.{exit_number};
 
@@ -30,7 +31,7 @@ pub enum Status {
     NotLegal { event: u64 },
     /// The events up to this one are not those of the scripts, or the next one is wanting.
     NotFollows { event: u64 },
-    /// This line behind the journal, counted from 1, is not the one that the journal gives.
+    /// This line after the journal, counted from 1, is not the one that the journal gives.
     WrongEnd { line: u64 },
     /// A file is longer than its limit, or with the files read before it longer than the limit of all.
     TooLong { name: Text },

@@ -1,11 +1,11 @@
 use Rattle.std.proofs.Common.{◌≡◌, inl, inr, refl, arith}
 use Rattle.dw_value.specs.declared.kinds.Encoding.TheVariants.{Raw, Bytedict, Delta, Delta32k, Mostly8, Mostly16, Mostly32, Runlength}
-use Rattle.dw_block.specs.Blocks.{encoded}
+use Rattle.dw_block.specs.Blocks.{encoded_numbers}
 use Rattle.dw_block.proofs.encodings.numbers_have_one_form.Goals as goal
 
 pub returns : goal.returns
 returns c = λ encoding width numbers others is few few' fits fits'.
-    elim encoding as (λ e. encoded e width numbers ≡ encoded e width others → numbers ≡ others) [
+    elim encoding as (λ e. encoded_numbers e width numbers ≡ encoded_numbers e width others → numbers ≡ others) [
       | Raw ↦ c.raw_has_one_form.ensures width numbers others is fits fits'
       | Bytedict ↦ c.bytedict_has_one_form.ensures width numbers others is fits fits'
       | Delta ↦ c.delta_has_one_form.ensures width 1 numbers others is (inl refl) fits fits'

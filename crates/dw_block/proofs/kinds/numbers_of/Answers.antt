@@ -3,15 +3,15 @@ use Rattle.std.specs.Prelude.{All}
 use Rattle.std.proofs.lemmas.List.Elements.{All-get_or}
 use Rattle.dw_codec_plain.specs.Numbers.{FitsWidth}
 use Rattle.dw_codec_plain.proofs.Signed.{same_bits}
-use Rattle.dw_block.specs.Blocks.{width, IsOf, number_in, numbers_of}
-use Rattle.dw_block.specs.Forms.{IsWidth-width}
+use Rattle.dw_block.specs.Blocks.{width, IsValueOf, number_in, numbers_of}
+use Rattle.dw_block.proofs.Forms.{IsWidth-width}
 use Rattle.dw_block.proofs.Present.{some_step, none_step}
 use Rattle.dw_block.proofs.kinds.numbers_of.Goals as goal
 use Rattle.dw_block.proofs.kinds.numbers_of.Goals.{in-Some+in_ok-push, in_default}
 
 pub number_in-requires-clause-is : goal.number_in-requires-clause-is
 number_in-requires-clause-is c =
-    subst (IsOf c.args.kind) (sym c.value-item.is) (All-get_or (IsOf c.args.kind) c.args.values.now c.loop-value.value-index c.value-item.result c.loop-value-test.true c.requires.each)
+    subst (IsValueOf c.args.kind) (sym c.value-item.is) (All-get_or (IsValueOf c.args.kind) c.args.values.now c.loop-value.value-index c.value-item.result c.loop-value-test.true c.requires.each)
 
 pub loop-value-preserved : goal.loop-value-preserved
 loop-value-preserved c =

@@ -1,6 +1,6 @@
 use Rattle.std.proofs.Common.{◌≡◌, ◌-◌, ◌+◌, suc, length, arith, ap, ◌++◌, ◌∷◌, [], ℕ, ◌∙◌}
 use Rattle.dw_block.specs.Nulls.{null_len, null_bits}
-use Rattle.dw_block.specs.NullBits.{bytes_step}
+use Rattle.dw_block.proofs.NullBits.{bytes_step}
 use Rattle.dw_block.proofs.nulls.null_bits.Goals as goal
 
 pub loop-preserved : goal.loop-preserved

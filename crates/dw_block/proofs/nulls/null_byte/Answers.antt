@@ -1,6 +1,6 @@
 use Rattle.std.proofs.Common.{◌≡◌, ◌<◌, ◌^◌, ◌+◌, ◌*◌, take, sym, ◌∙◌, true, false}
 use Rattle.dw_block.specs.Nulls.{null_number}
-use Rattle.dw_block.specs.NullBits.{null_step}
+use Rattle.dw_block.proofs.NullBits.{null_step}
 use Rattle.dw_block.proofs.nulls.null_byte.Goals as goal
 use Rattle.dw_block.proofs.nulls.null_byte.Goals.{then-is_null, else-is_null}
 

@@ -5,8 +5,8 @@ use Rattle.dw_value.specs.declared.values.Value.TheVariants.{Null}
 use Rattle.dw_codec_plain.specs.Numbers.{FitsWidth}
 use Rattle.dw_codec_plain.proofs.Signed.{same_bits}
 use Rattle.dw_block.specs.Blocks.{width, number_in, value_of}
-use Rattle.dw_block.specs.Forms.{IsWidth-width}
-use Rattle.dw_block.specs.Places.{IsFound, null_place, item_place, no_item, some_number}
+use Rattle.dw_block.proofs.Forms.{IsWidth-width}
+use Rattle.dw_block.proofs.Places.{IsFound, null_place, item_place, no_item, some_number}
 use Rattle.dw_block.proofs.placing.place_numbers.Goals as goal
 
 get_or_default : (l : List ℤ) (i : ℕ) (d e : ℤ) → i < length l → get_or l i d ≡ get_or l i e

@@ -2,7 +2,7 @@ use Rattle.std.proofs.Common.{◌∙◌, ◌++◌, ◌∷◌, ◌+◌, [], ℕ, 
 use Rattle.dw_value.specs.declared.values.Value.{Value}
 use Rattle.dw_value.specs.declared.values.Value.TheVariants.{Words, Null}
 use Rattle.dw_block.specs.Blocks.{text_in}
-use Rattle.dw_block.specs.Places.{IsFound, null_place, item_place, no_item, some_text}
+use Rattle.dw_block.proofs.Places.{IsFound, null_place, item_place, no_item, some_text}
 use Rattle.dw_block.proofs.placing.place_texts.Goals as goal
 
 pub loop-place-preserved-then-bit_at : goal.loop-place-preserved-then-bit_at

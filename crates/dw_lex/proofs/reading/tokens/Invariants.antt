@@ -1,4 +1,4 @@
--- The tokens so far and those behind them are the tokens of the whole text, and those so far are in order up to here.
+-- The tokens so far and those after them are the tokens of the whole text, and those so far are in order up to here.
 use Rattle.std.proofs.Common.{◌≡◌, ◌-◌, ◌≤◌, length, drop}
 use Rattle.dw_lex.specs.Reading.{read_from, read_tokens}
 use Rattle.dw_lex.specs.Places.{AreInOrder}

@@ -11,12 +11,12 @@ returns-in_err-push_move-clause-bad c =
     rw (p.1, p.2) (bad_further c.in_err-push_move.field-0.0
     (λ (bad : ℕ). EndsAt c.args.sessions ((c.args.number, c.in-Some.word.now) ∷ []) c.loop-word.moves bad)
     (λ (bad : ℕ). EndsAt c.args.sessions all c.args.moves.now bad)
-    (λ bad. word-ends c.args.sessions c.args.number all c.loop-word.rest.now c.in-Some.word.now c.in-Some.behind.now c.args.moves.now c.loop-word.moves bad c.in-Some.ensures.cut c.loop-word.invariant)
+    (λ bad. word-ends c.args.sessions c.args.number all c.loop-word.rest.now c.in-Some.word.now c.in-Some.tail.now c.args.moves.now c.loop-word.moves bad c.in-Some.ensures.cut c.loop-word.invariant)
     c.in_err-push_move.ensures.bad)
 
 pub loop-word-preserved : goal.loop-word-preserved
 loop-word-preserved c =
-    word-more c.args.sessions c.args.number (words_on c.args.number c.args.line.now) c.loop-word.rest.now c.in-Some.word.now c.in-Some.behind.now c.args.moves.now c.loop-word.moves c.push_move.new.moves
+    word-more c.args.sessions c.args.number (words_on c.args.number c.args.line.now) c.loop-word.rest.now c.in-Some.word.now c.in-Some.tail.now c.args.moves.now c.loop-word.moves c.push_move.new.moves
     c.in-Some.ensures.cut c.loop-word.invariant c.in_ok-push_move.ensures.ok
 
 pub returns-in_err-push_move-2-clause-bad : goal.returns-in_err-push_move-2-clause-bad

@@ -14,7 +14,7 @@ returns-in_err-read_line-clause-bad c =
     (λ (bad : ℕ). EndsAt c.args.sessions (words_on c.loop-line.number (strip_carriage_return c.in-Some.line.now)) c.loop-line.moves bad)
     (λ (bad : ℕ). read_schedule c.args.sessions c.args.bytes.now ≡ Err bad)
     (λ bad ends. schedule-bad c.args.sessions c.args.bytes.now bad
-    (line-ends c.args.sessions c.loop-line.number all c.loop-line.rest.now c.in-Some.line.now c.in-Some.behind.now c.loop-line.moves bad c.in-Some.ensures.cut c.loop-line.invariant.on ends))
+    (line-ends c.args.sessions c.loop-line.number all c.loop-line.rest.now c.in-Some.line.now c.in-Some.tail.now c.loop-line.moves bad c.in-Some.ensures.cut c.loop-line.invariant.on ends))
     bad_line)
 
 pub loop-line-preserved : goal.loop-line-preserved
@@ -22,7 +22,7 @@ loop-line-preserved c =
     let all = words_from 1 (lines c.args.bytes.now) in
     let line_read = rw c.without_return.ensures at c.in_ok-read_line.ensures.ok in
     record {
-      on = line-more c.args.sessions c.loop-line.number all c.loop-line.rest.now c.in-Some.line.now c.in-Some.behind.now c.loop-line.moves c.read_line.new.moves c.in-Some.ensures.cut c.loop-line.invariant.on line_read;
+      on = line-more c.args.sessions c.loop-line.number all c.loop-line.rest.now c.in-Some.line.now c.in-Some.tail.now c.loop-line.moves c.read_line.new.moves c.in-Some.ensures.cut c.loop-line.invariant.on line_read;
       counted = omega (arith, c.in-Some.ensures.shorter);
     }
 

@@ -4,7 +4,7 @@ use Rattle.dw_script.specs.Schedule.{words_from}
 use Rattle.dw_script.proofs.Words.{Continues}
 use Rattle.dw_script.proofs.schedule.read_schedule.Given as goal
 
--- reading the schedule is reading the lines that are left behind the moves so far
+-- reading the schedule is reading the lines that are left after the moves so far
 abbrev pub invariant-loop-line : goal.invariant-loop-line
 invariant-loop-line l =
     record {

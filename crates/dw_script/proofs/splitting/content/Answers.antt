@@ -9,7 +9,7 @@ loop-at-preserved c =
     let step = content-more c.loop-at.place c.loop-at.at part c.loop-at-test.true (sym c.begins_statement.ensures ∙ c.if-begins_statement.false) in
     record {
       here = rw c.after-place.ensures.place (sym step ∙ c.loop-at.invariant.here);
-      behind = rw c.after-place.ensures.place more.0;
+      within = rw c.after-place.ensures.place more.0;
       front = rw c.after-place.ensures.place more.1;
       nested = omega (arith, c.after-place.ensures.deeper);
     }

@@ -4,7 +4,7 @@ use Rattle.std.proofs.lemmas.Result.{IfOk-weaker}
 use Rattle.dw_codec_plain.specs.Numbers.{FitsWidth}
 use Rattle.dw_codec_plain.specs.Spelling.{IsSpelling}
 use Rattle.dw_block.specs.Nulls.{null_len}
-use Rattle.dw_block.specs.Blocks.{encoded, width, IsStored}
+use Rattle.dw_block.specs.Blocks.{encoded_numbers, width, IsBlockText}
 use Rattle.dw_block.proofs.Reading.{few, front_within, nulls_within, numbers_spelled, texts_spelled, numbers_found, texts_found, texts_stored}
 use Rattle.dw_block.proofs.block.Block.values.Goals as goal
 
@@ -24,7 +24,7 @@ read_numbers-requires-clause-bytes c =
     let b = c.self.inside in
     let back : c.split_at.result.1.now ≡ drop (null_len b.count) b.bytes.items =
     c.split_at.ensures.back ∙ ap (λ (n : ℕ). drop n c.as_slice.result.now) c.null_len.ensures.value ∙ ap (drop (null_len b.count)) c.as_slice.ensures.value in
-    subst (λ (w : ℕ). ∥ IsSpelling (encoded b.encoding w) (FitsWidth w) (b.count - b.zone.nulls) c.split_at.result.1.now ∥₁) (sym c.width.ensures.value)
+    subst (λ (w : ℕ). ∥ IsSpelling (encoded_numbers b.encoding w) (FitsWidth w) (b.count - b.zone.nulls) c.split_at.result.1.now ∥₁) (sym c.width.ensures.value)
     (numbers_spelled b.encoding b.kind b.count b.bytes.items b.zone b.content (sym c.takes_texts.ensures ∙ c.if-takes_texts.false) c.split_at.result.1.now back)
 
 pub read_texts-requires-clause-bytes : goal.read_texts-requires-clause-bytes
@@ -41,8 +41,8 @@ returns-in_ok-numbers c =
     c.split_at.ensures.front ∙ ap (λ (n : ℕ). take n c.as_slice.result.now) c.null_len.ensures.value ∙ ap (take (null_len b.count)) c.as_slice.ensures.value in
     let back : c.split_at.result.1.now ≡ drop (null_len b.count) b.bytes.items =
     c.split_at.ensures.back ∙ ap (λ (n : ℕ). drop n c.as_slice.result.now) c.null_len.ensures.value ∙ ap (drop (null_len b.count)) c.as_slice.ensures.value in
-    let same : (others : List ℤ) → length others ≤ 4096 → All (FitsWidth (width b.kind)) others → c.split_at.result.1.now ≡ encoded b.encoding (width b.kind) others → c.in_ok-numbers.numbers.items ≡ others =
-    subst (λ (w : ℕ). (others : List ℤ) → length others ≤ 4096 → All (FitsWidth w) others → c.split_at.result.1.now ≡ encoded b.encoding w others → c.in_ok-numbers.numbers.items ≡ others) c.width.ensures.value c.in_ok-numbers.ensures.same in
+    let same : (others : List ℤ) → length others ≤ 4096 → All (FitsWidth (width b.kind)) others → c.split_at.result.1.now ≡ encoded_numbers b.encoding (width b.kind) others → c.in_ok-numbers.numbers.items ≡ others =
+    subst (λ (w : ℕ). (others : List ℤ) → length others ≤ 4096 → All (FitsWidth w) others → c.split_at.result.1.now ≡ encoded_numbers b.encoding w others → c.in_ok-numbers.numbers.items ≡ others) c.width.ensures.value c.in_ok-numbers.ensures.same in
     IfOk-weaker c.place_numbers.result _ _ (λ found finds.
     numbers_found b.encoding b.kind b.count b.bytes.items b.zone b.content (sym c.takes_texts.ensures ∙ c.if-takes_texts.false) c.split_at.result.0.now c.split_at.result.1.now
     c.as_slice-else-takes_texts.result.now found front back (λ others few fits is. c.as_slice-else-takes_texts.ensures.value ∙ same others few fits is) finds
@@ -53,7 +53,7 @@ place_texts-requires-clause-stored c =
     let b = c.self.inside in
     let back : c.split_at.result.1.now ≡ drop (null_len b.count) b.bytes.items =
     c.split_at.ensures.back ∙ ap (λ (n : ℕ). drop n c.as_slice.result.now) c.null_len.ensures.value ∙ ap (drop (null_len b.count)) c.as_slice.ensures.value in
-    subst (All IsStored) (sym c.as_slice-then-takes_texts.ensures.value)
+    subst (All IsBlockText) (sym c.as_slice-then-takes_texts.ensures.value)
     (texts_stored b.encoding b.kind b.count b.bytes.items b.zone b.content (sym c.takes_texts.ensures ∙ c.if-takes_texts.true) c.split_at.result.1.now c.in_ok-texts.texts.items back c.in_ok-texts.ensures)
 
 pub returns-in_ok-texts : goal.returns-in_ok-texts

@@ -1,7 +1,7 @@
 -- Values are found from their null bits and items, place by place.
 use Rattle.std.proofs.Common.{◌≡◌, ℕ, ◌+◌, ◌*◌, ◌<◌, ◌≤◌, Bool, true, false, eqb, if◌then◌else◌, ℤ, pos, Option, None, Some, List, [], ◌∷◌, ◌++◌, length, take, drop, get_or, refl, sym, ap, ◌∙◌, arith, true≢false, add-one, drop-cons}
 use Rattle.std.specs.List.{filter_map, cons_option}
-use Rattle.std.proofs.lemmas.List.{take_more, take_all, drop_all}
+use Rattle.std.proofs.lemmas.List.{take_more, drop_all}
 use Rattle.std.proofs.lemmas.List.Elements.{All-get_or}
 use Rattle.dw_value.specs.declared.kinds.Kind.{Kind}
 use Rattle.dw_value.specs.declared.kinds.Kind.TheVariants.{Char, Varchar, Date, Bool as Boolean}
@@ -9,9 +9,9 @@ use Rattle.dw_value.specs.declared.values.Value.{Value}
 use Rattle.dw_value.specs.declared.values.Value.TheVariants.{Number, Words, Day, Truth, Null}
 use Rattle.dw_value.specs.Values.{is_null, takes_texts}
 use Rattle.dw_block.specs.Nulls.{null_len, null_bits, bit_at}
-use Rattle.dw_block.specs.Blocks.{IsOf, number_in, text_in, value_of}
+use Rattle.dw_block.specs.Blocks.{IsValueOf, number_in, text_in, value_of}
 use Rattle.dw_block.specs.Stored.{IsPlaced}
-use Rattle.dw_block.specs.NullBits.{bit_is}
+use Rattle.dw_block.proofs.NullBits.{bit_is}
 
 flag_test : (t : Bool) → eqb (if t then 1 else 0) 1 ≡ t
 flag_test true = refl
@@ -33,13 +33,13 @@ null_at values place lt =
     let within : place < 8 * null_len (length values) = omega arith in
     ap (λ (n : ℕ). eqb n 1) (bit_is (null_len (length values)) values place Null lt within) ∙ flag_test (is_null (get_or values place Null))
 
--- so far the values up to the place are found, and the items behind `next` are those of the values that are left
+-- so far the values up to the place are found, and the items after `next` are those of the values that are left
 abbrev pub IsFound : {X : Type 0} → (Value → Option X) → Kind → List ℕ → List X → ℕ → ℕ → ℕ → List Value → Type 0
 IsFound item_in kind nulls items count place next found = (values : List Value) → IsPlaced (filter_map item_in) kind nulls items count values
     → (found ≡ take place values) × (drop next items ≡ filter_map item_in (drop place values))
 
 module _ {X : Type 0} (item_in : Value → Option X) (from : X → Value) (kind : Kind)
-    (some : (v : Value) → IsOf kind v → is_null v ≡ false → (x : X) × (item_in v ≡ Some x) × (from x ≡ v)) (none : item_in Null ≡ None)
+    (some : (v : Value) → IsValueOf kind v → is_null v ≡ false → (x : X) × (item_in v ≡ Some x) × (from x ≡ v)) (none : item_in Null ≡ None)
     (nulls : List ℕ) (items : List X) (count : ℕ) where
   abbrev Found : ℕ → ℕ → List Value → Type 0
   Found = IsFound item_in kind nulls items count
@@ -68,7 +68,7 @@ module _ {X : Type 0} (item_in : Value → Option X) (from : X → Value) (kind 
       → (x : X) × (drop next items ≡ x ∷ filter_map item_in (drop (place + 1) values)) × (from x ≡ get_or values place Null)
   item values place next found p lt clear before =
       let within : place < length values = omega (arith, p.counted) in
-      let r = some (get_or values place Null) (All-get_or (IsOf kind) values place Null within p.each) (sym (bit values place p lt) ∙ clear) in
+      let r = some (get_or values place Null) (All-get_or (IsValueOf kind) values place Null within p.each) (sym (bit values place p lt) ∙ clear) in
       (r.0, (before values p).1 ∙ left values place within ∙ ap (λ o. cons_option o (filter_map item_in (drop (place + 1) values))) r.1, r.2)
 
   pub item_place : (place next : ℕ) (found : List Value) (x : X) → place < count → bit_at nulls place ≡ false → next < length items → x ≡ get_or items next x → Found place next found
@@ -90,11 +90,8 @@ module _ {X : Type 0} (item_in : Value → Option X) (from : X → Value) (kind 
       let none : [] ≡ r.0 ∷ filter_map item_in (drop (place + 1) values) = sym (drop_all next items out) ∙ r.1 in
       cc none
 
-  pub finish : (next : ℕ) (found : List Value) → Found count next found → (values : List Value) → IsPlaced (filter_map item_in) kind nulls items count values → found ≡ values
-  finish next found before values p = (before values p).0 ∙ take_all count values (omega (arith, p.counted))
-
 -- a value of a kind that takes no texts is NULL or a number of that kind
-pub some_number : (kind : Kind) → takes_texts kind ≡ false → (v : Value) → IsOf kind v → is_null v ≡ false → (n : ℤ) × (number_in v ≡ Some n) × (value_of kind n ≡ v)
+pub some_number : (kind : Kind) → takes_texts kind ≡ false → (v : Value) → IsValueOf kind v → is_null v ≡ false → (n : ℤ) × (number_in v ≡ Some n) × (value_of kind n ≡ v)
 some_number Date e (Number n) of not = absurd (true≢false (sym of.goes))
 some_number Boolean e (Number n) of not = absurd (true≢false (sym of.goes))
 some_number (Char limit) e (Number n) of not = absurd (true≢false (sym of.goes))
@@ -109,7 +106,7 @@ some_number kind e (Words text) of not = absurd (true≢false (sym of.goes ∙ e
 some_number kind e Null of not = absurd (true≢false not)
 
 -- a value of a kind that takes texts is NULL or a text
-pub some_text : (kind : Kind) → takes_texts kind ≡ true → (v : Value) → IsOf kind v → is_null v ≡ false → (t : List ℕ) × (text_in v ≡ Some t) × (Words t ≡ v)
+pub some_text : (kind : Kind) → takes_texts kind ≡ true → (v : Value) → IsValueOf kind v → is_null v ≡ false → (t : List ℕ) × (text_in v ≡ Some t) × (Words t ≡ v)
 some_text (Char limit) e (Number n) of not = absurd (true≢false (sym of.goes))
 some_text (Varchar limit) e (Number n) of not = absurd (true≢false (sym of.goes))
 some_text kind e (Number n) of not = absurd (true≢false (sym e))

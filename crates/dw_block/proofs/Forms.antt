@@ -23,7 +23,7 @@ use Rattle.dw_codec_runs.proofs.RunsTexts.{text_code}
 use Rattle.std.specs.Prelude.{nat_le}
 use Rattle.dw_value.specs.declared.kinds.Kind.{Kind}
 use Rattle.dw_value.specs.declared.kinds.Kind.TheVariants.{Small, Int, Big, Decimal, Char, Varchar, Date, Bool as Boolean}
-use Rattle.dw_block.specs.Blocks.{width, encoded, encoded_texts}
+use Rattle.dw_block.specs.Blocks.{width, encoded_numbers, encoded_texts}
 
 raw_form : (width : ℕ) (values others : List ℤ) → IsWidth width → All (FitsWidth width) values → All (FitsWidth width) others → raw width values ≡ raw width others → values ≡ others
 raw_form width values others is fits fits' same =
@@ -65,7 +65,7 @@ texts_form Mostly32 values others few few' fits fits' same = raw_texts_form valu
 texts_form Runlength values others few few' fits fits' same = runlength_texts_form values others few few' fits fits' same
 
 pub numbers_form : (encoding : Encoding) (width : ℕ) (values others : List ℤ) → IsWidth width → length values ≤ 4096 → length others ≤ 4096 → All (FitsWidth width) values → All (FitsWidth width) others
-    → encoded encoding width values ≡ encoded encoding width others → values ≡ others
+    → encoded_numbers encoding width values ≡ encoded_numbers encoding width others → values ≡ others
 numbers_form Raw width values others is few few' fits fits' same = raw_form width values others is fits fits' same
 numbers_form Bytedict width values others is few few' fits fits' same = bytedict_form width values others is fits fits' same
 numbers_form Delta width values others is few few' fits fits' same = delta_form width 1 values others is (inl refl) fits fits' same

@@ -1,4 +1,4 @@
--- What a column holds of a value is a value of its kind.
+-- A value that a column admits is a value of its kind, as the column holds it.
 use Rattle.std.specs.Prelude.{nat_le}
 use Rattle.std.proofs.Common.{◌≡◌, ℕ, ◌==◌, Bool, true, false, List, [], ◌∷◌, length, Ok, Err, if◌then◌else◌, refl, sym, ap, subst, ◌∙◌, IsTrue, ℤ, true≢false}
 use Rattle.dw_value.specs.declared.kinds.Kind.{Kind}
@@ -8,7 +8,7 @@ use Rattle.dw_value.specs.declared.values.Value.{Value}
 use Rattle.dw_value.specs.declared.values.Value.TheVariants.{Number, Words, Day, Truth, Null}
 use Rattle.dw_value.specs.Texts.{before_text, without_end_spaces}
 use Rattle.dw_value.specs.Values.{goes_with, holds_number, text_within, admitted}
-use Rattle.dw_block.specs.Blocks.{IsOf}
+use Rattle.dw_block.specs.Blocks.{IsValueOf}
 
 blank : (byte : ℕ) (t : Bool) → (byte == 32) ≡ t → without_end_spaces (if t then [] else byte ∷ []) ≡ (if t then [] else byte ∷ [])
 blank byte true e = refl
@@ -31,41 +31,41 @@ text_by : (t : Bool) (text : List ℕ) (w : Value) → (if t then Ok (Words text
 text_by true text w e = (cc, refl)
 text_by false text w e = cc
 
-same_kind : (kind : Kind) (v w : Value) → w ≡ v → IsOf kind v → IsOf kind w
-same_kind kind v w is of = subst (IsOf kind) (sym is) of
+same_kind : (kind : Kind) (v w : Value) → w ≡ v → IsValueOf kind v → IsValueOf kind w
+same_kind kind v w is of = subst (IsValueOf kind) (sym is) of
 
-no : (kind : Kind) (w : Value) → false ≡ true → IsOf kind w
+no : (kind : Kind) (w : Value) → false ≡ true → IsValueOf kind w
 no kind w e = absurd (true≢false (sym e))
 
-pub held_is : (kind : Kind) (v w : Value) → IsTrue (goes_with kind v) → admitted kind v ≡ Ok w → IsOf kind w
-held_is kind (Number n) w goes e =
+pub IsValueOf-admitted : (kind : Kind) (v w : Value) → IsTrue (goes_with kind v) → admitted kind v ≡ Ok w → IsValueOf kind w
+IsValueOf-admitted kind (Number n) w goes e =
     let r = number_by (holds_number kind n) n w e in
-    let of : IsOf kind (Number n) = record { goes = goes; held = ap (λ (t : Bool). if t then Ok (Number n) else Err Range) r.1 } in
+    let of : IsValueOf kind (Number n) = record { goes = goes; held = ap (λ (t : Bool). if t then Ok (Number n) else Err Range) r.1 } in
     same_kind kind (Number n) w r.0 of
-held_is (Char limit) (Words text) w goes e =
+IsValueOf-admitted (Char limit) (Words text) w goes e =
     let r = text_by (nat_le (length (without_end_spaces text)) limit) (without_end_spaces text) w e in
-    let of : IsOf (Char limit) (Words (without_end_spaces text)) =
+    let of : IsValueOf (Char limit) (Words (without_end_spaces text)) =
     record { goes = refl; held = ap (text_within limit) (once text) ∙ ap (λ (t : Bool). if t then Ok (Words (without_end_spaces text)) else Err Length) r.1 } in
     same_kind (Char limit) (Words (without_end_spaces text)) w r.0 of
-held_is (Varchar limit) (Words text) w goes e =
+IsValueOf-admitted (Varchar limit) (Words text) w goes e =
     let r = text_by (nat_le (length text) limit) text w e in
-    let of : IsOf (Varchar limit) (Words text) = record { goes = refl; held = ap (λ (t : Bool). if t then Ok (Words text) else Err Length) r.1 } in
+    let of : IsValueOf (Varchar limit) (Words text) = record { goes = refl; held = ap (λ (t : Bool). if t then Ok (Words text) else Err Length) r.1 } in
     same_kind (Varchar limit) (Words text) w r.0 of
-held_is Small (Words text) w goes e = no Small w goes
-held_is Int (Words text) w goes e = no Int w goes
-held_is Big (Words text) w goes e = no Big w goes
-held_is (Decimal precision scale) (Words text) w goes e = no (Decimal precision scale) w goes
-held_is Date (Words text) w goes e = no Date w goes
-held_is Boolean (Words text) w goes e = no Boolean w goes
-held_is kind (Day n) w goes e =
-    let of : IsOf kind (Day n) = record { goes = goes; held = refl } in
+IsValueOf-admitted Small (Words text) w goes e = no Small w goes
+IsValueOf-admitted Int (Words text) w goes e = no Int w goes
+IsValueOf-admitted Big (Words text) w goes e = no Big w goes
+IsValueOf-admitted (Decimal precision scale) (Words text) w goes e = no (Decimal precision scale) w goes
+IsValueOf-admitted Date (Words text) w goes e = no Date w goes
+IsValueOf-admitted Boolean (Words text) w goes e = no Boolean w goes
+IsValueOf-admitted kind (Day n) w goes e =
+    let of : IsValueOf kind (Day n) = record { goes = goes; held = refl } in
     let same : w ≡ Day n = cc e in
     same_kind kind (Day n) w same of
-held_is kind (Truth b) w goes e =
-    let of : IsOf kind (Truth b) = record { goes = goes; held = refl } in
+IsValueOf-admitted kind (Truth b) w goes e =
+    let of : IsValueOf kind (Truth b) = record { goes = goes; held = refl } in
     let same : w ≡ Truth b = cc e in
     same_kind kind (Truth b) w same of
-held_is kind Null w goes e =
-    let of : IsOf kind Null = record { goes = goes; held = refl } in
+IsValueOf-admitted kind Null w goes e =
+    let of : IsValueOf kind Null = record { goes = goes; held = refl } in
     let same : w ≡ Null = cc e in
     same_kind kind Null w same of
