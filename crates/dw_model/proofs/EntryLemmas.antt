@@ -18,6 +18,7 @@ use Rattle.dw_model.specs.declared.databases.Entry.{Entry}
 use Rattle.dw_model.specs.Databases.{IsAscending}
 use Rattle.dw_model.specs.Binding.{same_name}
 use Rattle.dw_model.specs.Entries.{pair_of, pairs_of, names_rise, place_in, named_at, RowsAscend}
+use Rattle.dw_model.proofs.DatabaseLemmas.{names_same}
 use lib.Dec.{T}
 
 -- the order of names
@@ -25,7 +26,7 @@ abbrev R : List ℕ → List ℕ → Ordering
 R = slice_cmp nat_cmp
 
 -- no entries stand for the empty map
-pub from_no_entries : map.from_sorted {K = List ℕ} {X = Table} {R = slice_cmp nat_cmp} [] ≡ map.empty
+pub from_no_entries : {X : Type 0} → map.from_sorted {K = List ℕ} {X = X} {R = slice_cmp nat_cmp} [] ≡ map.empty
 from_no_entries =
     map.empty_of_len _ (map.len-entries _ ∙ ap length (map.entries-from_sorted (slice_cmp nat_cmp) [] tt))
 
@@ -57,55 +58,55 @@ turned a b r e = nat_list_cmp_total.antisymm b a ∙ ap ordering_reverse e
 pub same-tied : (a b : List ℕ) (r : Ordering) → R a b ≡ r → same_name a b ≡ is_eq r
 same-tied a b r e = sym (is_eq-slice_cmp a b) ∙ ap is_eq e
 
-below_at : (x : List ℕ) (es : List Entry) (j : ℕ) (d : Entry) → T (below_all R x (pairs_of es)) → j < length es → is_lt (R x (get_or es j d).name) ≡ true
+below_at : (x : List ℕ) (es : List Entry) (j : ℕ) (d : Entry) → T (below_all R x (pairs_of es)) → j < length es → is_lt (R x (arc_value (get_or es j d).name)) ≡ true
 below_at x [] j d h lt = absurd (omega arith)
 below_at x (e ∷ es) zero d h lt = true-from_T _ (and_first _ _ h)
 below_at x (e ∷ es) (suc j) d h lt = below_at x es j d (and_second _ _ h) (omega arith)
 
 -- the entries with a name below this one stand in front
-pub names_parted : (name : List ℕ) (es : List Entry) → T (names_rise es) → IsPartitionedBy (λ e. is_lt (R e.name name)) es
+pub names_parted : (name : List ℕ) (es : List Entry) → T (names_rise es) → IsPartitionedBy (λ e. is_lt (R (arc_value e.name) name)) es
 names_parted name [] h i j d le lt t = absurd (omega arith)
 names_parted name (e ∷ es) h zero zero d le lt t = t
 names_parted name (e ∷ es) h zero (suc j) d le lt t =
-    let first = less_from _ (below_at e.name es j d (and_first _ _ h) (omega arith)) in
-    ap is_lt (nat_list_cmp_total.trans e.name (get_or es j d).name name first (less_from _ t))
+    let first = less_from _ (below_at (arc_value e.name) es j d (and_first _ _ h) (omega arith)) in
+    ap is_lt (nat_list_cmp_total.trans (arc_value e.name) (arc_value (get_or es j d).name) name first (less_from _ t))
 names_parted name (e ∷ es) h (suc i) zero d le lt t = absurd (omega arith)
 names_parted name (e ∷ es) h (suc i) (suc j) d le lt t = names_parted name es (and_second _ _ h) i j d (omega arith) (omega arith) t
 
 -- the place where those in front end
-pub place_is : (name : List ℕ) (es : List Entry) (i : ℕ) → i ≤ length es → AllWithin (λ e. is_lt (R e.name name) ≡ true) es 0 i → AllWithin (λ e. is_lt (R e.name name) ≡ false) es i (length es) → i ≡ place_in es name
-place_is name [] i le before behind = omega arith
-place_is name (e ∷ es) zero le before behind =
-    let first : is_lt (R e.name name) ≡ false = behind 0 e (omega arith) (omega arith) in
+pub place_is : (name : List ℕ) (es : List Entry) (i : ℕ) → i ≤ length es → AllWithin (λ e. is_lt (R (arc_value e.name) name) ≡ true) es 0 i → AllWithin (λ e. is_lt (R (arc_value e.name) name) ≡ false) es i (length es) → i ≡ place_in es name
+place_is name [] i le before after = omega arith
+place_is name (e ∷ es) zero le before after =
+    let first : is_lt (R (arc_value e.name) name) ≡ false = after 0 e (omega arith) (omega arith) in
     sym (ap (λ b. if b then suc (place_in es name) else 0) first)
-place_is name (e ∷ es) (suc i) le before behind =
-    let first : is_lt (R e.name name) ≡ true = before 0 e (omega arith) (omega arith) in
-    ap suc (place_is name es i (omega arith) (λ k d a b. before (suc k) d (omega arith) (omega arith)) (λ k d a b. behind (suc k) d (omega arith) (omega arith)))
+place_is name (e ∷ es) (suc i) le before after =
+    let first : is_lt (R (arc_value e.name) name) ≡ true = before 0 e (omega arith) (omega arith) in
+    ap suc (place_is name es i (omega arith) (λ k d a b. before (suc k) d (omega arith) (omega arith)) (λ k d a b. after (suc k) d (omega arith) (omega arith)))
     ∙ sym (ap (λ b. if b then suc (place_in es name) else 0) first)
 
 none_below : (q x : List ℕ) (es : List Entry) → R q x ≡ Less → T (below_all R x (pairs_of es)) → find R q (pairs_of es) ≡ None
 none_below q x [] e h = refl
 none_below q x (entry ∷ es) e h =
-    let first = nat_list_cmp_total.trans q x entry.name e (less_from _ (true-from_T _ (and_first _ _ h))) in
+    let first = nat_list_cmp_total.trans q x (arc_value entry.name) e (less_from _ (true-from_T _ (and_first _ _ h))) in
     ap (λ r. cond (is_eq r) (Some (arc_value entry.table)) (find R q (pairs_of es))) first ∙ none_below q x es e (and_second _ _ h)
 
 -- the table of an entry, where its name is this one
 abbrev pub table_named : List ℕ → Option Entry → Option Table
 table_named name None = None
-table_named name (Some entry) = if same_name entry.name name then Some (arc_value entry.table) else None
+table_named name (Some entry) = if same_name (arc_value entry.name) name then Some (arc_value entry.table) else None
 
-find_by : (name : List ℕ) (e : Entry) (es : List Entry) (r : Ordering) → R name e.name ≡ r → T (names_rise (e ∷ es)) → find R name (pairs_of es) ≡ table_named name (slice_get es (place_in es name)) → find R name (pairs_of (e ∷ es)) ≡ table_named name (slice_get (e ∷ es) (place_in (e ∷ es) name))
+find_by : (name : List ℕ) (e : Entry) (es : List Entry) (r : Ordering) → R name (arc_value e.name) ≡ r → T (names_rise (e ∷ es)) → find R name (pairs_of es) ≡ table_named name (slice_get es (place_in es name)) → find R name (pairs_of (e ∷ es)) ≡ table_named name (slice_get (e ∷ es) (place_in (e ∷ es) name))
 find_by name e es Less is h rest =
-    let back = turned name e.name Less is in
+    let back = turned name (arc_value e.name) Less is in
     ap (λ r. cond (is_eq r) (Some (arc_value e.table)) (find R name (pairs_of es))) is
-    ∙ none_below name e.name es is (and_first _ _ h)
-    ∙ sym (ap (λ r. table_named name (slice_get (e ∷ es) (if is_lt r then suc (place_in es name) else 0))) back ∙ ap (λ b. if b then Some (arc_value e.table) else None) (same-tied e.name name Greater back))
+    ∙ none_below name (arc_value e.name) es is (and_first _ _ h)
+    ∙ sym (ap (λ r. table_named name (slice_get (e ∷ es) (if is_lt r then suc (place_in es name) else 0))) back ∙ ap (λ b. if b then Some (arc_value e.table) else None) (same-tied (arc_value e.name) name Greater back))
 find_by name e es Equal is h rest =
-    let back = turned name e.name Equal is in
+    let back = turned name (arc_value e.name) Equal is in
     ap (λ r. cond (is_eq r) (Some (arc_value e.table)) (find R name (pairs_of es))) is
-    ∙ sym (ap (λ r. table_named name (slice_get (e ∷ es) (if is_lt r then suc (place_in es name) else 0))) back ∙ ap (λ b. if b then Some (arc_value e.table) else None) (same-tied e.name name Equal back))
+    ∙ sym (ap (λ r. table_named name (slice_get (e ∷ es) (if is_lt r then suc (place_in es name) else 0))) back ∙ ap (λ b. if b then Some (arc_value e.table) else None) (same-tied (arc_value e.name) name Equal back))
 find_by name e es Greater is h rest =
-    let back = turned name e.name Greater is in
+    let back = turned name (arc_value e.name) Greater is in
     ap (λ r. cond (is_eq r) (Some (arc_value e.table)) (find R name (pairs_of es))) is
     ∙ rest
     ∙ sym (ap (λ r. table_named name (slice_get (e ∷ es) (if is_lt r then suc (place_in es name) else 0))) back)
@@ -113,88 +114,88 @@ find_by name e es Greater is h rest =
 -- what is found under a name is the table at its place, where that one has the name
 pub find-place : (name : List ℕ) (es : List Entry) → T (names_rise es) → find R name (pairs_of es) ≡ table_named name (slice_get es (place_in es name))
 find-place name [] h = refl
-find-place name (e ∷ es) h = find_by name e es (R name e.name) refl h (find-place name es (and_second _ _ h))
+find-place name (e ∷ es) h = find_by name e es (R name (arc_value e.name)) refl h (find-place name es (and_second _ _ h))
 
 pub get-place : (name : List ℕ) (es : List Entry) → T (names_rise es) → map.get (map.from_sorted {R = slice_cmp nat_cmp} (pairs_of es)) name ≡ table_named name (slice_get es (place_in es name))
 get-place name es h = map.get-from_sorted (slice_cmp nat_cmp) (pairs_of es) name h ∙ find-place name es h
 
-put_present_by : (new e : Entry) (es : List Entry) (r : Ordering) → R new.name e.name ≡ r → named_at new.name (slice_get (e ∷ es) (place_in (e ∷ es) new.name)) ≡ true
-    → (named_at new.name (slice_get es (place_in es new.name)) ≡ true → put R new.name (arc_value new.table) (pairs_of es) ≡ pairs_of (set es (place_in es new.name) new))
-    → put R new.name (arc_value new.table) (pairs_of (e ∷ es)) ≡ pairs_of (set (e ∷ es) (place_in (e ∷ es) new.name) new)
+put_present_by : (new e : Entry) (es : List Entry) (r : Ordering) → R (arc_value new.name) (arc_value e.name) ≡ r → named_at (arc_value new.name) (slice_get (e ∷ es) (place_in (e ∷ es) (arc_value new.name))) ≡ true
+    → (named_at (arc_value new.name) (slice_get es (place_in es (arc_value new.name))) ≡ true → put R (arc_value new.name) (arc_value new.table) (pairs_of es) ≡ pairs_of (set es (place_in es (arc_value new.name)) new))
+    → put R (arc_value new.name) (arc_value new.table) (pairs_of (e ∷ es)) ≡ pairs_of (set (e ∷ es) (place_in (e ∷ es) (arc_value new.name)) new)
 put_present_by new e es Less is at rest =
-    let back = turned new.name e.name Less is in
-    let other : false ≡ true = sym (ap (λ r. named_at new.name (slice_get (e ∷ es) (if is_lt r then suc (place_in es new.name) else 0))) back ∙ same-tied e.name new.name Greater back) ∙ at in
+    let back = turned (arc_value new.name) (arc_value e.name) Less is in
+    let other : false ≡ true = sym (ap (λ r. named_at (arc_value new.name) (slice_get (e ∷ es) (if is_lt r then suc (place_in es (arc_value new.name)) else 0))) back ∙ same-tied (arc_value e.name) (arc_value new.name) Greater back) ∙ at in
     absurd (false≢true other)
 put_present_by new e es Equal is at rest =
-    let back = turned new.name e.name Equal is in
-    let same : e.name ≡ new.name = slice_cmp-IsAntisymmetric nat_cmp-IsAntisymmetric e.name new.name back in
-    ap (λ r. map.Entries.by_order r ((new.name, (arc_value new.table)) ∷ pairs_of (e ∷ es)) ((e.name, (arc_value new.table)) ∷ pairs_of es) (pair_of e ∷ put R new.name (arc_value new.table) (pairs_of es))) is
+    let back = turned (arc_value new.name) (arc_value e.name) Equal is in
+    let same : (arc_value e.name) ≡ (arc_value new.name) = slice_cmp-IsAntisymmetric nat_cmp-IsAntisymmetric (arc_value e.name) (arc_value new.name) back in
+    ap (λ r. map.Entries.by_order r ((arc_value new.name, (arc_value new.table)) ∷ pairs_of (e ∷ es)) ((arc_value e.name, (arc_value new.table)) ∷ pairs_of es) (pair_of e ∷ put R (arc_value new.name) (arc_value new.table) (pairs_of es))) is
     ∙ ap (λ n. (n, (arc_value new.table)) ∷ pairs_of es) same
-    ∙ sym (ap (λ r. pairs_of (set (e ∷ es) (if is_lt r then suc (place_in es new.name) else 0) new)) back)
+    ∙ sym (ap (λ r. pairs_of (set (e ∷ es) (if is_lt r then suc (place_in es (arc_value new.name)) else 0) new)) back)
 put_present_by new e es Greater is at rest =
-    let back = turned new.name e.name Greater is in
-    let further = sym (ap (λ r. named_at new.name (slice_get (e ∷ es) (if is_lt r then suc (place_in es new.name) else 0))) back) ∙ at in
-    ap (λ r. map.Entries.by_order r ((new.name, (arc_value new.table)) ∷ pairs_of (e ∷ es)) ((e.name, (arc_value new.table)) ∷ pairs_of es) (pair_of e ∷ put R new.name (arc_value new.table) (pairs_of es))) is
+    let back = turned (arc_value new.name) (arc_value e.name) Greater is in
+    let further = sym (ap (λ r. named_at (arc_value new.name) (slice_get (e ∷ es) (if is_lt r then suc (place_in es (arc_value new.name)) else 0))) back) ∙ at in
+    ap (λ r. map.Entries.by_order r ((arc_value new.name, (arc_value new.table)) ∷ pairs_of (e ∷ es)) ((arc_value e.name, (arc_value new.table)) ∷ pairs_of es) (pair_of e ∷ put R (arc_value new.name) (arc_value new.table) (pairs_of es))) is
     ∙ ap (λ t. pair_of e ∷ t) (rest further)
-    ∙ sym (ap (λ r. pairs_of (set (e ∷ es) (if is_lt r then suc (place_in es new.name) else 0) new)) back)
+    ∙ sym (ap (λ r. pairs_of (set (e ∷ es) (if is_lt r then suc (place_in es (arc_value new.name)) else 0) new)) back)
 
 -- a table under a name that is there takes the place of the old one
-pub put_present : (new : Entry) (es : List Entry) → named_at new.name (slice_get es (place_in es new.name)) ≡ true → put R new.name (arc_value new.table) (pairs_of es) ≡ pairs_of (set es (place_in es new.name) new)
+pub put_present : (new : Entry) (es : List Entry) → named_at (arc_value new.name) (slice_get es (place_in es (arc_value new.name))) ≡ true → put R (arc_value new.name) (arc_value new.table) (pairs_of es) ≡ pairs_of (set es (place_in es (arc_value new.name)) new)
 put_present new [] at = absurd (false≢true at)
-put_present new (e ∷ es) at = put_present_by new e es (R new.name e.name) refl at (put_present new es)
+put_present new (e ∷ es) at = put_present_by new e es (R (arc_value new.name) (arc_value e.name)) refl at (put_present new es)
 
-put_absent_by : (new e : Entry) (es : List Entry) (r : Ordering) → R new.name e.name ≡ r → named_at new.name (slice_get (e ∷ es) (place_in (e ∷ es) new.name)) ≡ false
-    → (named_at new.name (slice_get es (place_in es new.name)) ≡ false → put R new.name (arc_value new.table) (pairs_of es) ≡ pairs_of (insert es (place_in es new.name) new))
-    → put R new.name (arc_value new.table) (pairs_of (e ∷ es)) ≡ pairs_of (insert (e ∷ es) (place_in (e ∷ es) new.name) new)
+put_absent_by : (new e : Entry) (es : List Entry) (r : Ordering) → R (arc_value new.name) (arc_value e.name) ≡ r → named_at (arc_value new.name) (slice_get (e ∷ es) (place_in (e ∷ es) (arc_value new.name))) ≡ false
+    → (named_at (arc_value new.name) (slice_get es (place_in es (arc_value new.name))) ≡ false → put R (arc_value new.name) (arc_value new.table) (pairs_of es) ≡ pairs_of (insert es (place_in es (arc_value new.name)) new))
+    → put R (arc_value new.name) (arc_value new.table) (pairs_of (e ∷ es)) ≡ pairs_of (insert (e ∷ es) (place_in (e ∷ es) (arc_value new.name)) new)
 put_absent_by new e es Less is at rest =
-    let back = turned new.name e.name Less is in
-    ap (λ r. map.Entries.by_order r ((new.name, (arc_value new.table)) ∷ pairs_of (e ∷ es)) ((e.name, (arc_value new.table)) ∷ pairs_of es) (pair_of e ∷ put R new.name (arc_value new.table) (pairs_of es))) is
-    ∙ sym (ap (λ r. pairs_of (insert (e ∷ es) (if is_lt r then suc (place_in es new.name) else 0) new)) back)
+    let back = turned (arc_value new.name) (arc_value e.name) Less is in
+    ap (λ r. map.Entries.by_order r ((arc_value new.name, (arc_value new.table)) ∷ pairs_of (e ∷ es)) ((arc_value e.name, (arc_value new.table)) ∷ pairs_of es) (pair_of e ∷ put R (arc_value new.name) (arc_value new.table) (pairs_of es))) is
+    ∙ sym (ap (λ r. pairs_of (insert (e ∷ es) (if is_lt r then suc (place_in es (arc_value new.name)) else 0) new)) back)
 put_absent_by new e es Equal is at rest =
-    let back = turned new.name e.name Equal is in
-    let other : true ≡ false = sym (ap (λ r. named_at new.name (slice_get (e ∷ es) (if is_lt r then suc (place_in es new.name) else 0))) back ∙ same-tied e.name new.name Equal back) ∙ at in
+    let back = turned (arc_value new.name) (arc_value e.name) Equal is in
+    let other : true ≡ false = sym (ap (λ r. named_at (arc_value new.name) (slice_get (e ∷ es) (if is_lt r then suc (place_in es (arc_value new.name)) else 0))) back ∙ same-tied (arc_value e.name) (arc_value new.name) Equal back) ∙ at in
     absurd (false≢true (sym other))
 put_absent_by new e es Greater is at rest =
-    let back = turned new.name e.name Greater is in
-    let further = sym (ap (λ r. named_at new.name (slice_get (e ∷ es) (if is_lt r then suc (place_in es new.name) else 0))) back) ∙ at in
-    ap (λ r. map.Entries.by_order r ((new.name, (arc_value new.table)) ∷ pairs_of (e ∷ es)) ((e.name, (arc_value new.table)) ∷ pairs_of es) (pair_of e ∷ put R new.name (arc_value new.table) (pairs_of es))) is
+    let back = turned (arc_value new.name) (arc_value e.name) Greater is in
+    let further = sym (ap (λ r. named_at (arc_value new.name) (slice_get (e ∷ es) (if is_lt r then suc (place_in es (arc_value new.name)) else 0))) back) ∙ at in
+    ap (λ r. map.Entries.by_order r ((arc_value new.name, (arc_value new.table)) ∷ pairs_of (e ∷ es)) ((arc_value e.name, (arc_value new.table)) ∷ pairs_of es) (pair_of e ∷ put R (arc_value new.name) (arc_value new.table) (pairs_of es))) is
     ∙ ap (λ t. pair_of e ∷ t) (rest further)
-    ∙ sym (ap (λ r. pairs_of (insert (e ∷ es) (if is_lt r then suc (place_in es new.name) else 0) new)) back)
+    ∙ sym (ap (λ r. pairs_of (insert (e ∷ es) (if is_lt r then suc (place_in es (arc_value new.name)) else 0) new)) back)
 
 -- a table under a new name goes to its place
-pub put_absent : (new : Entry) (es : List Entry) → named_at new.name (slice_get es (place_in es new.name)) ≡ false → put R new.name (arc_value new.table) (pairs_of es) ≡ pairs_of (insert es (place_in es new.name) new)
+pub put_absent : (new : Entry) (es : List Entry) → named_at (arc_value new.name) (slice_get es (place_in es (arc_value new.name))) ≡ false → put R (arc_value new.name) (arc_value new.table) (pairs_of es) ≡ pairs_of (insert es (place_in es (arc_value new.name)) new)
 put_absent new [] at = refl
-put_absent new (e ∷ es) at = put_absent_by new e es (R new.name e.name) refl at (put_absent new es)
+put_absent new (e ∷ es) at = put_absent_by new e es (R (arc_value new.name) (arc_value e.name)) refl at (put_absent new es)
 
 -- the other names
 other_than : List ℕ → List ℕ → Bool
 other_than name x = not (is_eq (R name x))
 
--- those behind a name are others
-kept_behind : (name : List ℕ) (es : List Entry) → T (below_all R name (pairs_of es)) → where_key R (other_than name) (pairs_of es) ≡ pairs_of es
+-- those after a name are others
+kept_after : (name : List ℕ) (es : List Entry) → T (below_all R name (pairs_of es)) → where_key R (other_than name) (pairs_of es) ≡ pairs_of es
 unfolding other_than
-kept_behind name [] h = refl
-kept_behind name (e ∷ es) h =
-    let kept : not (is_eq (R name e.name)) ≡ true = ap (λ r. not (is_eq r)) (less_from _ (true-from_T _ (and_first _ _ h))) in
+kept_after name [] h = refl
+kept_after name (e ∷ es) h =
+    let kept : not (is_eq (R name (arc_value e.name))) ≡ true = ap (λ r. not (is_eq r)) (less_from _ (true-from_T _ (and_first _ _ h))) in
     ap (λ b. cond b (pair_of e ∷ where_key R (other_than name) (pairs_of es)) (where_key R (other_than name) (pairs_of es))) kept
-    ∙ ap (λ t. pair_of e ∷ t) (kept_behind name es (and_second _ _ h))
+    ∙ ap (λ t. pair_of e ∷ t) (kept_after name es (and_second _ _ h))
 
-removed_by : (name : List ℕ) (e : Entry) (es : List Entry) (r : Ordering) → R name e.name ≡ r → T (names_rise (e ∷ es)) → named_at name (slice_get (e ∷ es) (place_in (e ∷ es) name)) ≡ true
+removed_by : (name : List ℕ) (e : Entry) (es : List Entry) (r : Ordering) → R name (arc_value e.name) ≡ r → T (names_rise (e ∷ es)) → named_at name (slice_get (e ∷ es) (place_in (e ∷ es) name)) ≡ true
     → (named_at name (slice_get es (place_in es name)) ≡ true → pairs_of (remove es (place_in es name)) ≡ where_key R (other_than name) (pairs_of es))
     → pairs_of (remove (e ∷ es) (place_in (e ∷ es) name)) ≡ where_key R (other_than name) (pairs_of (e ∷ es))
 unfolding other_than
 removed_by name e es Less is h at rest =
-    let back = turned name e.name Less is in
-    let other : false ≡ true = sym (ap (λ r. named_at name (slice_get (e ∷ es) (if is_lt r then suc (place_in es name) else 0))) back ∙ same-tied e.name name Greater back) ∙ at in
+    let back = turned name (arc_value e.name) Less is in
+    let other : false ≡ true = sym (ap (λ r. named_at name (slice_get (e ∷ es) (if is_lt r then suc (place_in es name) else 0))) back ∙ same-tied (arc_value e.name) name Greater back) ∙ at in
     absurd (false≢true other)
 removed_by name e es Equal is h at rest =
-    let back = turned name e.name Equal is in
-    let same : e.name ≡ name = slice_cmp-IsAntisymmetric nat_cmp-IsAntisymmetric e.name name back in
+    let back = turned name (arc_value e.name) Equal is in
+    let same : (arc_value e.name) ≡ name = slice_cmp-IsAntisymmetric nat_cmp-IsAntisymmetric (arc_value e.name) name back in
     ap (λ r. pairs_of (remove (e ∷ es) (if is_lt r then suc (place_in es name) else 0))) back
-    ∙ sym (kept_behind name es (subst (λ (x : List ℕ). T (below_all R x (pairs_of es))) same (and_first _ _ h)))
+    ∙ sym (kept_after name es (subst (λ (x : List ℕ). T (below_all R x (pairs_of es))) same (and_first _ _ h)))
     ∙ sym (ap (λ r. cond (not (is_eq r)) (pair_of e ∷ where_key R (other_than name) (pairs_of es)) (where_key R (other_than name) (pairs_of es))) is)
 removed_by name e es Greater is h at rest =
-    let back = turned name e.name Greater is in
+    let back = turned name (arc_value e.name) Greater is in
     let further = sym (ap (λ r. named_at name (slice_get (e ∷ es) (if is_lt r then suc (place_in es name) else 0))) back) ∙ at in
     ap (λ r. pairs_of (remove (e ∷ es) (if is_lt r then suc (place_in es name) else 0))) back
     ∙ ap (λ t. pair_of e ∷ t) (rest further)
@@ -203,7 +204,7 @@ removed_by name e es Greater is h at rest =
 -- to take an entry away leaves those of other names
 removed : (name : List ℕ) (es : List Entry) → T (names_rise es) → named_at name (slice_get es (place_in es name)) ≡ true → pairs_of (remove es (place_in es name)) ≡ where_key R (other_than name) (pairs_of es)
 removed name [] h at = absurd (false≢true at)
-removed name (e ∷ es) h at = removed_by name e es (R name e.name) refl h at (removed name es (and_second _ _ h))
+removed name (e ∷ es) h at = removed_by name e es (R name (arc_value e.name)) refl h at (removed name es (and_second _ _ h))
 
 -- what is found where the entries of one name are left out
 tied_back : (r : Ordering) → is_eq (ordering_reverse r) ≡ is_eq r
@@ -333,21 +334,25 @@ module _ (name : List ℕ) (es seen again : List Entry) (i : ℕ) (named : Bool)
   pub get_unnamed : named ≡ false → map.get (map.from_sorted {R = slice_cmp nat_cmp} (pairs_of es)) name ≡ None
   get_unnamed fails = got ∙ table_of_none name (slice_get es i) (at_place false fails)
 
+  pub named_same : (e : Entry) → named ≡ true → i < length es → e ≡ get_or es i e → arc_value e.name ≡ name
+  named_same e holds lt is =
+      names_same (arc_value e.name) name (sym (ap (named_at name) (slice_get_at es i e lt is)) ∙ at_place true holds)
+
   pub put_named : (table : Table) (new : Entry) → pair_of new ≡ (name, table) → named ≡ true → IsPut es name table (set es i new)
   put_named table new is holds =
-      let at : named_at new.name (slice_get es (place_in es new.name)) ≡ true =
+      let at : named_at (arc_value new.name) (slice_get es (place_in es (arc_value new.name))) ≡ true =
       subst (λ (n : List ℕ). named_at n (slice_get es (place_in es n)) ≡ true) (sym (ap (λ p. p.0) is)) (ap (λ k. named_at name (slice_get es k)) (sym here) ∙ at_place true holds) in
-      let put : IsPut es new.name (arc_value new.table) (set es (place_in es new.name) new) = is_put new.name (arc_value new.table) es _ rise (put_present new es at) in
-      let there : place_in es new.name ≡ i = ap (place_in es) (ap (λ p. p.0) is) ∙ sym here in
-      subst (λ (p : List ℕ × Table). IsPut es p.0 p.1 (set es i new)) is (subst (λ (k : ℕ). IsPut es new.name (arc_value new.table) (set es k new)) there put)
+      let put : IsPut es (arc_value new.name) (arc_value new.table) (set es (place_in es (arc_value new.name)) new) = is_put (arc_value new.name) (arc_value new.table) es _ rise (put_present new es at) in
+      let there : place_in es (arc_value new.name) ≡ i = ap (place_in es) (ap (λ p. p.0) is) ∙ sym here in
+      subst (λ (p : List ℕ × Table). IsPut es p.0 p.1 (set es i new)) is (subst (λ (k : ℕ). IsPut es (arc_value new.name) (arc_value new.table) (set es k new)) there put)
 
   pub put_unnamed : (table : Table) (new : Entry) → pair_of new ≡ (name, table) → named ≡ false → IsPut es name table (insert es i new)
   put_unnamed table new is fails =
-      let at : named_at new.name (slice_get es (place_in es new.name)) ≡ false =
+      let at : named_at (arc_value new.name) (slice_get es (place_in es (arc_value new.name))) ≡ false =
       subst (λ (n : List ℕ). named_at n (slice_get es (place_in es n)) ≡ false) (sym (ap (λ p. p.0) is)) (ap (λ k. named_at name (slice_get es k)) (sym here) ∙ at_place false fails) in
-      let put : IsPut es new.name (arc_value new.table) (insert es (place_in es new.name) new) = is_put new.name (arc_value new.table) es _ rise (put_absent new es at) in
-      let there : place_in es new.name ≡ i = ap (place_in es) (ap (λ p. p.0) is) ∙ sym here in
-      subst (λ (p : List ℕ × Table). IsPut es p.0 p.1 (insert es i new)) is (subst (λ (k : ℕ). IsPut es new.name (arc_value new.table) (insert es k new)) there put)
+      let put : IsPut es (arc_value new.name) (arc_value new.table) (insert es (place_in es (arc_value new.name)) new) = is_put (arc_value new.name) (arc_value new.table) es _ rise (put_absent new es at) in
+      let there : place_in es (arc_value new.name) ≡ i = ap (place_in es) (ap (λ p. p.0) is) ∙ sym here in
+      subst (λ (p : List ℕ × Table). IsPut es p.0 p.1 (insert es i new)) is (subst (λ (k : ℕ). IsPut es (arc_value new.name) (arc_value new.table) (insert es k new)) there put)
 
   pub remove_named : named ≡ true → IsRemoved es name (remove es i)
   remove_named holds =

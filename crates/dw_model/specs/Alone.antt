@@ -1,37 +1,30 @@
--- A statement run alone on a database: its answer with the next database, or its refusal.
-use Rattle.std.specs.Prelude.{ℕ, List, [], ◌∷◌, map, length, Option, Some, None, unwrap_or, Result, Ok, Err, if◌then◌else◌}
-use Rattle.std.specs.FinMap as map_of
+-- A statement run alone on a database: its answer with the next database, or its refusal. Its names and kinds are
+-- bound to the definitions alone, and what is bound is carried out on the rows and the files alone.
+use Rattle.std.specs.Prelude.{ℕ, List, [], ◌∷◌, map, length, Option, Some, None, Result, Ok, Err}
 use Rattle.dw_value.specs.declared.kinds.Misfit.{Misfit}
 use Rattle.dw_value.specs.declared.values.Value.{Value}
 use Rattle.dw_value.specs.declared.values.Row.{Row}
-use Rattle.dw_value.specs.Values.{row_cmp, admitted}
-use Rattle.dw_value.specs.Sorted.{add_sorted}
+use Rattle.dw_value.specs.Values.{admitted}
 use Rattle.dw_model.specs.declared.refusals.Refusal.{Refusal}
-use Rattle.dw_model.specs.declared.refusals.Refusal.TheVariants.{Syntax, Unknown, Range}
+use Rattle.dw_model.specs.declared.refusals.Refusal.TheVariants.{Range}
 use Rattle.dw_model.specs.declared.statements.Statement.{Statement}
-use Rattle.dw_model.specs.declared.statements.Statement.TheVariants.{Begin, Commit, Rollback, Vacuum, Create, Insert, Select}
-use Rattle.dw_model.specs.declared.statements.ColumnSpec.{ColumnSpec}
-use Rattle.dw_model.specs.declared.statements.TableSpec.{TableSpec}
 use Rattle.dw_model.specs.declared.statements.Query.{Query}
 use Rattle.dw_model.specs.declared.tables.Column.{Column}
-use Rattle.dw_model.specs.declared.tables.Table.{Table}
 use Rattle.dw_model.specs.declared.tables.TableDef.{TableDef}
 use Rattle.dw_model.specs.declared.answers.Word.TheVariants as words
 use Rattle.dw_model.specs.declared.answers.Answer.{Answer}
 use Rattle.dw_model.specs.declared.answers.Answer.TheVariants as answers
 use Rattle.dw_model.specs.declared.answers.Plain.{Plain}
 use Rattle.dw_model.specs.declared.answers.Plain.TheVariants.{Done, Refused}
-use Rattle.dw_model.specs.Databases.{Tables}
-use Rattle.dw_model.specs.Binding.{bound_refusal, rows_go_with}
+use Rattle.dw_model.specs.declared.changes.Change.{Change}
+use Rattle.dw_model.specs.declared.changes.Change.TheVariants.{Unchanged, Creates, Alters}
+use Rattle.dw_model.specs.declared.changes.Outcome.{Outcome}
+use Rattle.dw_model.specs.Binding.{BoundStatement, Create, Insert, Select, bound}
+use Rattle.dw_model.specs.Changes.{changed}
+use Rattle.dw_model.specs.Databases.{Tables, def_of, rows_of}
+use Rattle.dw_model.specs.Files.{Files}
+use Rattle.dw_model.specs.Refusals.{after_result}
 use Rattle.dw_model.specs.Selection.{selected, fields_of}
-
--- a column as a created table has it
-abbrev pub column_made : ColumnSpec → Column
-column_made column = record { name = column.name; kind = column.kind }
-
--- the definition that a created table has
-abbrev pub def_made : TableSpec → TableDef
-def_made spec = record { columns = map column_made spec.columns }
 
 -- a value in front of the others, where all of them fit
 abbrev pub with_value : Result Value Misfit → Option (List Value) → Option (List Value)
@@ -43,7 +36,8 @@ with_value (Ok value) (Some values) = Some (value ∷ values)
 abbrev pub admitted_values : List Column → List Value → Option (List Value)
 admitted_values [] values = Some []
 admitted_values (column ∷ columns) [] = Some []
-admitted_values (column ∷ columns) (value ∷ values) = with_value (admitted column.kind value) (admitted_values columns values)
+admitted_values (column ∷ columns) (value ∷ values) =
+    with_value (admitted column.kind value) (admitted_values columns values)
 
 -- a row in front of the others, where all of them fit
 abbrev pub with_row : Option (List Value) → Option (List Row) → Option (List Row)
@@ -56,82 +50,61 @@ abbrev pub admitted_rows : List Column → List Row → Option (List Row)
 admitted_rows columns [] = Some []
 admitted_rows columns (row ∷ rows) = with_row (admitted_values columns row.values) (admitted_rows columns rows)
 
--- the rows that a table takes of these: all, each as the table holds it, or no row where a kind or a value doesn't fit
-abbrev pub taken_rows : List Column → List Row → List Row
-taken_rows columns rows = if rows_go_with columns rows then unwrap_or (admitted_rows columns rows) [] else []
+-- what CREATE TABLE comes to: a table of this definition is made
+abbrev pub create_outcome : List ℕ → TableDef → Outcome
+create_outcome table def = record { answer = answers.Plain words.CreateTable; change = Creates table def }
 
--- the same for the table of a name; where there is no such table, no row
-abbrev pub inserted_in : List Row → Option Table → List Row
-inserted_in rows None = []
-inserted_in rows (Some table) = taken_rows table.def.columns rows
+-- what INSERT of so many rows comes to, where these are the rows as the table holds them, if all of them fit: they are
+-- added in order
+abbrev pub insert_outcome : List ℕ → ℕ → Option (List Row) → Result Outcome Refusal
+insert_outcome table count None = Err Range
+insert_outcome table count (Some rows) =
+    Ok (record { answer = answers.Count words.Insert count; change = Alters table [] rows })
 
--- the rows that a statement adds to the table that it writes, in the order in which it gives them
-abbrev pub inserted : Statement → Tables → List Row
-inserted Begin tables = []
-inserted Commit tables = []
-inserted Rollback tables = []
-inserted (Vacuum table) tables = []
-inserted (Create spec) tables = []
-inserted (Insert table rows) tables = inserted_in rows (map_of.get tables table)
-inserted (Select query) tables = []
+-- what SELECT from a table with these columns and rows comes to: the answer alone
+abbrev pub select_outcome : List Column → Query → List Row → Outcome
+select_outcome columns query rows = record {
+  answer = answers.Rows words.Select query.items (map fields_of (selected query columns rows));
+  change = Unchanged;
+}
 
--- a new table of no rows
-abbrev pub table_made : TableSpec → Table
-table_made spec = record { def = def_made spec; rows = [] }
+-- What a bound statement comes to, where `rows` gives the rows of each table. Nothing else of a database is looked at.
+abbrev pub outcome_of : Files → (List ℕ → List Row) → BoundStatement → Result Outcome Refusal
+outcome_of files rows (Create table def) = Ok (create_outcome table def)
+outcome_of files rows (Insert table columns new) = insert_outcome table (length new) (admitted_rows columns new)
+outcome_of files rows (Select columns query) = Ok (select_outcome columns query (rows query.table))
 
--- a table with further rows, each at its place
-abbrev pub table_with : Table → List Row → Table
-table_with table rows = record { def = table.def; rows = add_sorted row_cmp rows table.rows }
+-- what a statement comes to on a database: its answer and its change, or its refusal
+abbrev pub outcome_on : Files → Statement → Tables → Result Outcome Refusal
+outcome_on files statement tables = after_result (outcome_of files (rows_of tables)) (bound (def_of tables) statement)
 
--- what an INSERT of so many rows gives, where these are the rows as its table holds them, if all of them fit
-abbrev pub rows_added : List ℕ → Tables → Table → ℕ → Option (List Row) → Plain
-rows_added name tables table count None = Refused Range
-rows_added name tables table count (Some rows) = Done (answers.Count words.Insert count) (map_of.insert tables name (table_with table rows))
-
--- what an INSERT gives, once its names and kinds are known to fit
-abbrev pub insert_done : List ℕ → List Row → Tables → Option Table → Plain
-insert_done name rows tables None = Refused (Unknown name)
-insert_done name rows tables (Some table) = rows_added name tables table (length rows) (admitted_rows table.def.columns rows)
-
--- what a SELECT gives, once its names and kinds are known to fit
-abbrev pub select_done : Query → Tables → Option Table → Plain
-select_done query tables None = Refused (Unknown query.table)
-select_done query tables (Some table) = Done (answers.Rows words.Select query.items (map fields_of (selected query table))) tables
-
--- What a statement gives, once its names and kinds are known to fit. Those that begin and end blocks, and VACUUM, are not
--- for a database: what becomes of them is a session's matter, and here they are refused.
-abbrev pub carried_out : Statement → Tables → Plain
-carried_out Begin tables = Refused (Syntax 0)
-carried_out Commit tables = Refused (Syntax 0)
-carried_out Rollback tables = Refused (Syntax 0)
-carried_out (Vacuum table) tables = Refused (Syntax 0)
-carried_out (Create spec) tables = Done (answers.Plain words.CreateTable) (map_of.insert tables spec.name (table_made spec))
-carried_out (Insert table rows) tables = insert_done table rows tables (map_of.get tables table)
-carried_out (Select query) tables = select_done query tables (map_of.get tables query.table)
-
--- the refusal, or else what follows
-abbrev pub unless_refused : Option Refusal → Plain → Plain
-unless_refused None plain = plain
-unless_refused (Some refusal) plain = Refused refusal
+-- an outcome on a database: its answer, and the database after its change
+abbrev pub plain_of : Tables → Result Outcome Refusal → Plain
+plain_of tables (Ok outcome) = Done outcome.answer (changed outcome.change tables)
+plain_of tables (Err refusal) = Refused refusal
 
 -- the statement run alone
-abbrev pub alone : Statement → Tables → Plain
-alone statement tables = unless_refused (bound_refusal statement tables) (carried_out statement tables)
+abbrev pub alone : Files → Statement → Tables → Plain
+alone files statement tables = plain_of tables (outcome_on files statement tables)
 
--- the database after a statement that gave this: a refused one leaves it as it was
-abbrev pub after : Plain → Tables → Tables
-after (Done answer next) tables = next
-after (Refused refusal) tables = tables
+-- the change of an outcome: a refused statement changes nothing
+abbrev pub change_in : Result Outcome Refusal → Change
+change_in (Ok outcome) = outcome.change
+change_in (Err refusal) = Unchanged
+
+-- what the statement changes, run alone
+abbrev pub change_of : Files → Statement → Tables → Change
+change_of files statement tables = change_in (outcome_on files statement tables)
 
 -- the database after the statement, run alone
-abbrev pub next_of : Statement → Tables → Tables
-next_of statement tables = after (alone statement tables) tables
+abbrev pub next_of : Files → Statement → Tables → Tables
+next_of files statement tables = changed (change_of files statement tables) tables
 
--- what a user sees of this: the answer, or the refusal
-abbrev pub reply_in : Plain → Result Answer Refusal
-reply_in (Done answer next) = Ok answer
-reply_in (Refused refusal) = Err refusal
+-- what a user sees of an outcome: the answer, or the refusal
+abbrev pub reply_in : Result Outcome Refusal → Result Answer Refusal
+reply_in (Ok outcome) = Ok outcome.answer
+reply_in (Err refusal) = Err refusal
 
 -- what the statement answers, run alone, or why it is refused
-abbrev pub reply_of : Statement → Tables → Result Answer Refusal
-reply_of statement tables = reply_in (alone statement tables)
+abbrev pub reply_of : Files → Statement → Tables → Result Answer Refusal
+reply_of files statement tables = reply_in (outcome_on files statement tables)

@@ -27,6 +27,11 @@ rows_in (Some table) = table.rows
 abbrev pub rows_of : Tables → List ℕ → List Row
 rows_of tables name = rows_in (map.get tables name)
 
+-- a database with this table under a name, or with none there
+abbrev pub table_put : List ℕ → Option Table → Tables → Tables
+table_put name None tables = map.remove tables name
+table_put name (Some table) tables = map.insert tables name table
+
 -- rows stand in ascending order: to sort them changes nothing
 abbrev pub IsAscending : List Row → Type 0
 IsAscending rows = sort row_cmp rows ≡ rows

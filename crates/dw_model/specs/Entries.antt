@@ -11,7 +11,7 @@ use Rattle.dw_model.specs.Binding.{same_name}
 
 -- a name with its table
 abbrev pub pair_of : Entry → List ℕ × Table
-pair_of entry = (entry.name, arc_value entry.table)
+pair_of entry = (arc_value entry.name, arc_value entry.table)
 
 abbrev pub pairs_of : List Entry → List (List ℕ × Table)
 pairs_of entries = map pair_of entries
@@ -28,9 +28,10 @@ RowsAscend (entry ∷ entries) = IsAscending (arc_value entry.table).rows × Row
 -- how many entries at the front have a name below this one
 abbrev pub place_in : List Entry → List ℕ → ℕ
 place_in [] name = 0
-place_in (entry ∷ entries) name = if is_lt (slice_cmp nat_cmp entry.name name) then suc (place_in entries name) else 0
+place_in (entry ∷ entries) name =
+    if is_lt (slice_cmp nat_cmp (arc_value entry.name) name) then suc (place_in entries name) else 0
 
 -- there is an entry, and it has this name
 abbrev pub named_at : List ℕ → Option Entry → Bool
 named_at name None = false
-named_at name (Some entry) = same_name entry.name name
+named_at name (Some entry) = same_name (arc_value entry.name) name

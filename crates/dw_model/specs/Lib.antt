@@ -1,8 +1,10 @@
 pub mod Refusals
 pub mod Databases
 pub mod Entries
+pub mod Files
 pub mod Binding
 pub mod Selection
+pub mod Changes
 pub mod Alone
 pub mod Objects
 pub mod Limits

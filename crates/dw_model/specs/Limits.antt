@@ -4,7 +4,6 @@ use Rattle.dw_model.specs.declared.refusals.Refusal.{Refusal}
 use Rattle.dw_model.specs.declared.refusals.Refusal.TheVariants.{Limit}
 use Rattle.dw_model.specs.declared.statements.Statement.{Statement}
 use Rattle.dw_model.specs.declared.statements.Statement.TheVariants.{Begin, Commit, Rollback, Vacuum, Create, Insert, Select}
-use Rattle.dw_model.specs.declared.limits.TheConstants.{MAX_ROWS}
 use Rattle.dw_model.specs.Databases.{Tables, rows_of}
 
 -- the table whose rows a statement writes
@@ -17,9 +16,9 @@ written_table (Create spec) = Some spec.name
 written_table (Insert table rows) = Some table
 written_table (Select query) = None
 
--- so many rows in a table are refused where they are too many
+-- so many rows in a table are refused where they are too many: more than 4,194,304
 abbrev pub too_many : ℕ → Option Refusal
-too_many count = if nat_lt MAX_ROWS count then Some (Limit count) else None
+too_many count = if nat_lt 4194304 count then Some (Limit count) else None
 
 -- the refusal of a table with too many rows in this database
 abbrev pub too_many_in : Option (List ℕ) → Tables → Option Refusal

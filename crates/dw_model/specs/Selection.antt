@@ -1,6 +1,6 @@
--- What a query gives of the rows of its table, by stages that are functions on whole lists, each before the next: the rows
--- that pass the test, their items, the order. After the SQL standard; a test that is unknown keeps no row. Without an
--- order of its own an answer's rows stand in ascending order.
+-- What a query gives of the rows of its table, by stages that are functions on whole lists, each before the next: the
+-- rows that pass the test, their items, the order. After the SQL standard; a test that is unknown keeps no row.
+-- Without an order of its own an answer's rows stand in ascending order.
 use Rattle.std.specs.Prelude.{ℕ, Bool, true, false, List, [], ◌∷◌, map, filter, Option, Some, None, if◌then◌else◌}
 use Rattle.dw_value.specs.declared.values.Value.{Value}
 use Rattle.dw_value.specs.declared.values.Value.TheVariants.{Null}
@@ -13,14 +13,14 @@ use Rattle.dw_value.specs.Sorted.{sort}
 use Rattle.dw_model.specs.declared.statements.Query.{Query}
 use Rattle.dw_model.specs.declared.statements.Test.{Test}
 use Rattle.dw_model.specs.declared.tables.Column.{Column}
-use Rattle.dw_model.specs.declared.tables.Table.{Table}
 use Rattle.dw_model.specs.Binding.{same_name}
 
 -- the value of the column of a name in a row of these columns; a name that is no column has NULL
 abbrev pub value_in : List Column → List Value → List ℕ → Value
 value_in [] values name = Null
 value_in (column ∷ columns) [] name = Null
-value_in (column ∷ columns) (value ∷ values) name = if same_name column.name name then value else value_in columns values name
+value_in (column ∷ columns) (value ∷ values) name =
+    if same_name column.name name then value else value_in columns values name
 
 -- only what is true passes
 abbrev pub is_true : Truth → Bool
@@ -31,15 +31,17 @@ is_true truths.True = true
 -- whether a row passes the test
 abbrev pub passes : List Column → Option Test → Row → Bool
 passes columns None row = true
-passes columns (Some test) row = is_true (truth_of test.comparison (value_in columns row.values test.column) test.literal)
+passes columns (Some test) row =
+    is_true (truth_of test.comparison (value_in columns row.values test.column) test.literal)
 
 -- the items of a row
 abbrev pub items_of : List Column → List (List ℕ) → Row → Row
 items_of columns items row = record { values = map (value_in columns row.values) items }
 
--- the rows of the answer, in ascending order
-abbrev pub selected : Query → Table → List Row
-selected query table = sort row_cmp (map (items_of table.def.columns query.items) (filter (passes table.def.columns query.keep) table.rows))
+-- the rows of the answer, in ascending order, of a table with these columns and rows
+abbrev pub selected : Query → List Column → List Row → List Row
+selected query columns rows =
+    sort row_cmp (map (items_of columns query.items) (filter (passes columns query.keep) rows))
 
 -- the answer's rows as they are printed
 abbrev pub fields_of : Row → List Field

@@ -1,3 +1,4 @@
+//! What statements answer.
 use crate::databases::Database;
 use crate::refusals::Refusal;
 use dw_value::{Field, List, Text};

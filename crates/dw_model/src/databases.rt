@@ -1,39 +1,42 @@
+//! Databases: tables under their names.
 ghost use Rattle.std.specs.Prelude.{◌≡◌, ◌<◌, ◌≤◌, ◌↔◌, length, slice_get, IsTrue, IfOk, IfSome, OnOk, OnErr};
 ghost use Rattle.std.specs.Option.{option_copied};
 ghost use Rattle.std.specs.FinMap as map;
-ghost use Rattle.dw_model.specs.Databases.{IsAscending};
+ghost use Rattle.dw_model.specs.Changes.{changed, rows_changed_at};
+ghost use Rattle.std.specs.Arc.{arc_value};
+ghost use Rattle.dw_model.specs.Databases.{IsAscending, table_put};
 ghost use Rattle.dw_model.specs.Entries.{names_rise, named_at, pair_of, pairs_of, place_in, RowsAscend};
 
+use crate::changes::Change;
 use crate::tables::Table;
-use dw_value::Text;
+use dw_value::{List, Row, Text};
 use std::alloc::{AllocError, Global};
 use std::marker::Model;
 use std::sync::Arc;
 
-/// A table under its name. The databases that have the table share it.
+/// A table under its name. The databases that have the table share both.
 #[derive(Debug, Drop)]
 pub struct Entry {
     /// The table's name, folded to lower case.
-    pub name: Text,
+    pub name: Arc<Text>,
     /// The table, which is never changed in place.
     pub table: Arc<Table>,
 }
 
 impl Entry {
-    /// An entry of the same name that shares the table.
+    /// An entry that shares the name and the table.
     pub fn copy(&self) -> Result<Entry, AllocError>
         ensures { IfOk result (λ copy. pair_of copy ≡ pair_of self.now) }
     {
-        let name = self.name.copy()?;
         Ok(Entry {
-            name,
+            name: Arc::try_clone(&self.name)?,
             table: Arc::try_clone(&self.table)?,
         })
     }
 }
 
-/// A database: tables under their names, each with its rows in ascending order. Contracts see it as a finite map, so two
-/// databases are equal where they have the same tables with the same rows up to order.
+/// A database: tables under their names, each with its rows in ascending order. Contracts see it as a finite map, so
+/// two databases are equal where they have the same tables with the same rows up to order.
 #[derive(Debug, Drop)]
 pub struct Database {
     entries: Vec<Entry>,
@@ -101,19 +104,46 @@ impl Database {
         }
     }
 
-    /// Puts a table under a name, in the place of the one that is there. Where memory runs out, the database is as before.
+    /// Puts a table under a name, in the place of the one that is there. Where memory runs out, the database is as
+    /// before.
     pub fn put(&mut self, name: Text, table: Table) -> Result<(), AllocError>
         requires { IsAscending table.rows }
         ensures ok { OnOk result (self.new ≡ map.insert self.old name table) }
         ensures err { OnErr result (self.new ≡ self.old) }
     {
-        let table = Arc::new(*self.entries.allocator(), table)?;
-        let place = place_of(self.entries.as_slice(), &name);
-        if is_named(self.entries.as_slice(), place, &name) {
-            self.entries[place] = Entry { name, table };
+        let alloc = *self.entries.allocator();
+        let name = Arc::new(alloc, name)?;
+        let table = Arc::new(alloc, table)?;
+        self.put_entry(Entry { name, table })
+    }
+
+    /// Makes the table of this name the one that `from` has under it, which the two databases then share, or takes it
+    /// away where `from` has none. No row is copied. Where memory runs out, the database is as before.
+    pub fn share(&mut self, name: &Text, from: &Database) -> Result<(), AllocError>
+        ensures ok { OnOk result (self.new ≡ table_put name.now (map.get from.now name.now) self.old) }
+        ensures err { OnErr result (self.new ≡ self.old) }
+    {
+        let place = place_of(from.entries.as_slice(), name);
+        if !is_named(from.entries.as_slice(), place, name) {
+            self.remove(name);
             return Ok(());
         }
-        self.entries.insert(place, Entry { name, table })?;
+        let entry = from.entries[place].copy()?;
+        self.put_entry(entry)
+    }
+
+    // Puts an entry in the place of the one of its name, or at a place of its own.
+    fn put_entry(&mut self, entry: Entry) -> Result<(), AllocError>
+        requires { IsAscending (arc_value entry.table).rows }
+        ensures ok { OnOk result (self.new ≡ map.insert self.old (arc_value entry.name) (arc_value entry.table)) }
+        ensures err { OnErr result (self.new ≡ self.old) }
+    {
+        let place = place_of(self.entries.as_slice(), &entry.name);
+        if is_named(self.entries.as_slice(), place, &entry.name) {
+            self.entries[place] = entry;
+            return Ok(());
+        }
+        self.entries.insert(place, entry)?;
         Ok(())
     }
 
@@ -127,8 +157,45 @@ impl Database {
         }
     }
 
-    /// An equal database, which shares the tables with this one. So it costs time in proportion to the number of tables,
-    /// not of their rows.
+    /// Carries a change out. The rows of the one table that changes are copied, those that go left out; the others
+    /// are shared as before. Where memory runs out, the database is as before.
+    pub fn apply(&mut self, change: &Change) -> Result<(), AllocError>
+        ensures ok { OnOk result (self.new ≡ changed change.now self.old) }
+        ensures err { OnErr result (self.new ≡ self.old) }
+    {
+        match change {
+            Change::Unchanged => Ok(()),
+            Change::Creates { table, def } => {
+                let rows = List::new(*self.entries.allocator());
+                let made = Table {
+                    def: def.copy()?,
+                    rows,
+                };
+                self.put(table.copy()?, made)
+            }
+            Change::Drops { table } => {
+                self.remove(table);
+                Ok(())
+            }
+            Change::Alters { table, gone, added } => self.alter(table, gone, added),
+        }
+    }
+
+    // Takes rows from the table of this name and adds rows to it, where it is there.
+    fn alter(&mut self, name: &Text, gone: &List<Row>, added: &List<Row>) -> Result<(), AllocError>
+        ensures ok { OnOk result
+            (self.new ≡ rows_changed_at name.now gone.now added.now (map.get self.old name.now) self.old) }
+        ensures err { OnErr result (self.new ≡ self.old) }
+    {
+        let made = match self.get(name) {
+            Some(table) => table.changed(gone, added)?,
+            None => return Ok(()),
+        };
+        self.put(name.copy()?, made)
+    }
+
+    /// An equal database, which shares the names and the tables with this one. So it costs time in proportion to the
+    /// number of tables, not of their rows.
     pub fn copy(&self) -> Result<Database, AllocError>
         ensures { IfOk result (λ copy. copy ≡ self.now) }
     {
@@ -155,7 +222,7 @@ fn is_named(entries: &[Entry], place: usize, name: &Text) -> bool
     ensures within { IsTrue result → place < length entries.now }
 {
     match entries.get(place) {
-        Some(entry) => entry.name == *name,
+        Some(entry) => *entry.name == *name,
         None => false,
     }
 }
@@ -163,8 +230,9 @@ fn is_named(entries: &[Entry], place: usize, name: &Text) -> bool
 #[cfg(test)]
 mod tests {
     use super::{Database, Table};
-    use crate::tables::{Column, Object, TableDef};
-    use dw_value::{Kind, List, Text};
+    use crate::changes::Change;
+    use crate::tables::{Column, TableDef};
+    use dw_value::{Kind, List, Row, Text, Value};
     use std::alloc::{AllocError, Global};
     use std::test::Fail;
 
@@ -208,10 +276,110 @@ mod tests {
             let entry = database.as_slice().get(place).ok_or("no entry")?;
             assert_eq!(rt; entry.name.as_str(), *name);
         }
-        match Object::Rows(b).copy()? {
-            Object::Rows(name) => assert_eq!(rt; name.as_str(), "b"),
-            Object::Def(_) => assert!(rt; false, "a copy has the same form"),
+        Ok(())
+    }
+
+    // The name of the first column of a table, or `-` where there is no such table.
+    fn first_column(alloc: Global, database: &Database, name: &Text) -> Result<Text, AllocError> {
+        let Some(table) = database.get(name) else {
+            return Text::from_str(alloc, "-");
+        };
+        match table.def.columns.get(0) {
+            Some(column) => column.name.copy(),
+            None => Ok(Text::new(alloc)),
         }
+    }
+
+    #[test]
+    fn tables_are_shared(rt: HostRuntime) -> Result<(), Fail> {
+        let alloc = rt.alloc();
+        let mut from = Database::new(alloc);
+        let mut database = Database::new(alloc);
+        for (name, column, other) in [("a", "x", "w"), ("c", "y", "v"), ("b", "z", "u")] {
+            let table = Table {
+                def: definition(alloc, column)?,
+                rows: List::new(alloc),
+            };
+            from.put(Text::from_str(alloc, name)?, table)?;
+            let table = Table {
+                def: definition(alloc, other)?,
+                rows: List::new(alloc),
+            };
+            database.put(Text::from_str(alloc, name)?, table)?;
+        }
+        for (name, before, after) in [("c", "v", "y"), ("d", "-", "-")] {
+            let name = Text::from_str(alloc, name)?;
+            assert_eq!(rt; first_column(alloc, &database, &name)?.as_str(), before);
+            database.share(&name, &from)?;
+            assert_eq!(rt; first_column(alloc, &database, &name)?.as_str(), after);
+        }
+        let a = Text::from_str(alloc, "a")?;
+        from.share(&a, &Database::new(alloc))?;
+        assert_eq!(rt; first_column(alloc, &from, &a)?.as_str(), "-");
+        assert_eq!(rt; first_column(alloc, &database, &a)?.as_str(), "w");
+        Ok(())
+    }
+
+    // A row for each number.
+    fn rows(alloc: Global, numbers: &[i128]) -> Result<List<Row>, AllocError> {
+        let mut rows = List::new(alloc);
+        for number in numbers {
+            let mut values = List::new(alloc);
+            values.push(Value::Number(*number))?;
+            rows.push(Row { values })?;
+        }
+        Ok(rows)
+    }
+
+    fn numbers_of(alloc: Global, table: &Table) -> Result<Vec<i128>, AllocError> {
+        let mut numbers = Vec::new(alloc);
+        for row in table.rows.as_slice() {
+            if let Some(Value::Number(number)) = row.values.get(0) {
+                numbers.push(*number)?;
+            }
+        }
+        Ok(numbers)
+    }
+
+    #[test]
+    fn changes_are_applied(rt: HostRuntime) -> Result<(), Fail> {
+        let alloc = rt.alloc();
+        let mut database = Database::new(alloc);
+        database.apply(&Change::Unchanged)?;
+        assert!(rt; database.is_empty());
+        for name in ["t", "u"] {
+            database.apply(&Change::Creates {
+                table: Text::from_str(alloc, name)?,
+                def: definition(alloc, "x")?,
+            })?;
+        }
+        let empty: &[i128] = &[];
+        for (gone, added, left) in [
+            (empty, [3, 1, 2, 1].as_slice(), [1, 1, 2, 3].as_slice()),
+            (&[1, 3, 4], &[4], &[1, 2, 4]),
+            (&[4, 1, 2], &[], &[]),
+        ] {
+            database.apply(&Change::Alters {
+                table: Text::from_str(alloc, "t")?,
+                gone: rows(alloc, gone)?,
+                added: rows(alloc, added)?,
+            })?;
+            let table = database
+                .get(&Text::from_str(alloc, "t")?)
+                .ok_or("t is there")?;
+            assert_eq!(rt; numbers_of(alloc, table)?.as_slice(), left);
+        }
+        let t = Text::from_str(alloc, "t")?;
+        database.apply(&Change::Drops { table: t.copy()? })?;
+        let gone = rows(alloc, &[1])?;
+        let added = rows(alloc, &[1])?;
+        database.apply(&Change::Alters {
+            table: t.copy()?,
+            gone,
+            added,
+        })?;
+        assert!(rt; database.get(&t).is_none());
+        assert_eq!(rt; database.len(), 1);
         Ok(())
     }
 }

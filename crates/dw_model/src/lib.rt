@@ -5,17 +5,23 @@
 #![tactic(auto)]
 
 mod answers;
+mod changes;
 mod databases;
+mod files;
 mod laws;
 mod limits;
+mod objects;
 mod refusals;
 mod statements;
 mod tables;
 
 pub use answers::{Answer, Plain, Word};
+pub use changes::{Change, Outcome};
 pub use databases::{Database, Entry};
-pub use laws::{rows_stay_ascending, statements_have_a_frame};
+pub use files::FileMap;
+pub use laws::{next_applies_the_change, rows_stay_ascending, statements_have_a_frame};
 pub use limits::{MAX_ROWS, limit_refusal};
+pub use objects::{Object, add_objects};
 pub use refusals::Refusal;
 pub use statements::{ColumnSpec, Query, Statement, TableSpec, Test};
-pub use tables::{Column, Object, Table, TableDef};
+pub use tables::{Column, Table, TableDef};

@@ -1,3 +1,4 @@
+//! Why statements are refused.
 ghost use Rattle.std.specs.Prelude.{◌≡◌, IfOk};
 
 use dw_value::{List, Text};
@@ -18,8 +19,8 @@ pub enum Refusal {
     Clash,
     /// Number 5: a value that its column can't hold.
     Range,
-    /// Number 10: the statement would wait for sessions that wait for it. `cycle` begins with its session; each of these
-    /// waits for the next, and the last for the first.
+    /// Number 10: the statement would wait for sessions that wait for it. `cycle` begins with its session; each of
+    /// these waits for the next, and the last for the first.
     Deadlock { cycle: List<u32> },
     /// Number 11: the block is aborted, since a statement in it was refused.
     Aborted,

@@ -1,3 +1,4 @@
+//! The statements that the grammar derives.
 use dw_value::{Comparison, Kind, List, Row, Text, Value};
 
 /// A column of a table that is to be created.
@@ -36,7 +37,7 @@ pub struct Query {
     pub items: List<Text>,
     /// The table's name.
     pub table: Text,
-    /// The condition behind WHERE.
+    /// The condition after WHERE.
     pub keep: Option<Test>,
 }
 

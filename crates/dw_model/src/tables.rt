@@ -1,6 +1,10 @@
-ghost use Rattle.std.specs.Prelude.{◌≡◌, IfOk};
+//! Tables: their definitions and their rows.
+ghost use Rattle.std.specs.Prelude.{◌≡◌, ◌<◌, false, length, slice_get, IfOk, IsTrue};
+ghost use Rattle.std.specs.Option.{option_map_or};
+ghost use Rattle.dw_model.specs.Changes.{same_row, table_changed, without_row, without_rows};
+ghost use Rattle.dw_model.specs.Databases.{IsAscending};
 
-use dw_value::{Kind, List, Row, Text};
+use dw_value::{Copied, Kind, List, Row, Text, add_rows};
 use std::alloc::AllocError;
 
 /// A column of a table.
@@ -24,6 +28,12 @@ impl Column {
     }
 }
 
+impl Copied for Column {
+    fn copy(&self) -> Result<Column, AllocError> {
+        self.copy()
+    }
+}
+
 /// The definition of a table: its columns, in order.
 #[derive(Debug, Drop)]
 pub struct TableDef {
@@ -36,11 +46,9 @@ impl TableDef {
     pub fn copy(&self) -> Result<TableDef, AllocError>
         ensures { IfOk result (λ copy. copy ≡ self.now) }
     {
-        let mut columns = List::new(self.columns.allocator());
-        for column in self.columns.as_slice() {
-            columns.push(column.copy()?)?;
-        }
-        Ok(TableDef { columns })
+        Ok(TableDef {
+            columns: self.columns.copy()?,
+        })
     }
 }
 
@@ -59,32 +67,57 @@ impl Table {
     pub fn copy(&self) -> Result<Table, AllocError>
         ensures { IfOk result (λ copy. copy ≡ self.now) }
     {
+        Ok(Table {
+            def: self.def.copy()?,
+            rows: self.rows.copy()?,
+        })
+    }
+
+    /// A table of this definition from whose rows `gone` are taken away and to which `added` are added. For each row
+    /// of `gone` one equal row goes, where there is one. The given table stays. It takes time in proportion to n log
+    /// n for n rows in all, and for each row that goes the time to move up the rows after it.
+    pub(crate) fn changed(&self, gone: &List<Row>, added: &List<Row>) -> Result<Table, AllocError>
+        requires { IsAscending self.now.rows }
+        ensures table { IfOk result (λ table. table ≡ table_changed gone.now added.now self.now) }
+        ensures ascending { IfOk result (λ table. IsAscending table.rows) }
+    {
         let def = self.def.copy()?;
-        let mut rows = List::new(self.rows.allocator());
-        for row in self.rows.as_slice() {
-            rows.push(row.copy()?)?;
-        }
+        let left = rows_left(&self.rows, gone)?;
+        let rows = add_rows(left, added.copy()?)?;
         Ok(Table { def, rows })
     }
 }
 
-/// What a transaction reads and writes of a table: its definition, or its rows.
-#[derive(Debug, Drop)]
-pub enum Object {
-    /// The definition of the table of this name.
-    Def(Text),
-    /// The rows of the table of this name.
-    Rows(Text),
+// Copies of the rows that are left when these are gone.
+fn rows_left(rows: &List<Row>, gone: &List<Row>) -> Result<List<Row>, AllocError>
+    requires { IsAscending rows.now }
+    ensures { IfOk result (λ left. left ≡ without_rows gone.now rows.now) }
+{
+    let mut left = rows.copy()?.into_vec();
+    for row in gone.as_slice() {
+        take_away(&mut left, row);
+    }
+    Ok(List::from_vec(left))
 }
 
-impl Object {
-    /// An equal object.
-    pub fn copy(&self) -> Result<Object, AllocError>
-        ensures { IfOk result (λ copy. copy ≡ self.now) }
-    {
-        match self {
-            Object::Def(name) => Ok(Object::Def(name.copy()?)),
-            Object::Rows(name) => Ok(Object::Rows(name.copy()?)),
-        }
+// Takes one row away that equals this one, if there is one. The search is binary.
+fn take_away(rows: &mut Vec<Row>, row: &Row)
+    requires { IsAscending rows.old.items }
+    ensures { rows.new.items ≡ without_row row.now rows.old.items }
+{
+    let place = rows.partition_point(|other| other.cmp(row).is_lt());
+    if stands_at(rows.as_slice(), place, row) {
+        rows.remove(place);
+    }
+}
+
+// Whether an equal row stands at this place.
+fn stands_at(rows: &[Row], place: usize, row: &Row) -> bool
+    ensures stands { result ≡ option_map_or (same_row row.now) (slice_get rows.now place) false }
+    ensures within { IsTrue result → place < length rows.now }
+{
+    match rows.get(place) {
+        Some(other) => *row == *other,
+        None => false,
     }
 }

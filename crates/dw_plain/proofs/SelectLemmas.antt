@@ -10,7 +10,6 @@ use Rattle.dw_value.specs.Values.{row_cmp, truth_of}
 use Rattle.dw_model.specs.declared.statements.Query.{Query}
 use Rattle.dw_model.specs.declared.statements.Test.{Test}
 use Rattle.dw_model.specs.declared.tables.Column.{Column}
-use Rattle.dw_model.specs.declared.tables.Table.{Table}
 use Rattle.dw_model.specs.Binding.{same_name}
 use Rattle.dw_model.specs.Selection.{is_true, items_of, passes, selected, value_in}
 use Rattle.dw_plain.specs.Places.{passes_at, place_of, tested_place, value_at, values_at}
@@ -55,16 +54,15 @@ kept-place columns items keep (row ∷ rows) =
     ∙ kept_by columns items keep row (filter (passes columns keep) rows) (filter (passes_at (tested_place columns keep) keep) rows) (passes_at (tested_place columns keep) keep row) (kept-place columns items keep rows)
 
 -- the answer's rows, by places
-pub selected-place : (query : Query) (table : Table) → selected query table ≡ sort row_cmp (map (values_at (map (place_of table.def.columns) query.items)) (filter (passes_at (tested_place table.def.columns query.keep) query.keep) table.rows))
-selected-place query table = ap (sort row_cmp) (kept-place table.def.columns query.items query.keep table.rows)
+pub selected-place : (query : Query) (columns : List Column) (rows : List Row)
+    → selected query columns rows ≡ sort row_cmp (map (values_at (map (place_of columns) query.items)) (filter (passes_at (tested_place columns query.keep) query.keep) rows))
+selected-place query columns rows = ap (sort row_cmp) (kept-place columns query.items query.keep rows)
 
 -- the rows that a loop over all rows of the table made, sorted
-pub selected_whole : (query : Query) (table : Table) (rows row_items : List Row) (places : List (Option ℕ)) (tested : Option ℕ) (columns : List Column) (items : List (List ℕ)) (i : ℕ)
-    → columns ≡ table.def.columns → items ≡ query.items → row_items ≡ table.rows → places ≡ map (place_of columns) items → tested ≡ tested_place columns query.keep
-    → rows ≡ map (values_at places) (filter (passes_at tested query.keep) (take i row_items)) → length row_items ≤ i → sort row_cmp rows ≡ selected query table
-selected_whole query table rows row_items places tested columns items i columns_is items_is row_items_is places_is tested_is rows_is le =
-    let named : places ≡ map (place_of table.def.columns) query.items = places_is ∙ (λ j. map (place_of (columns_is j)) (items_is j)) in
-    let kept : tested ≡ tested_place table.def.columns query.keep = tested_is ∙ ap (λ cs. tested_place cs query.keep) columns_is in
-    let all : take i row_items ≡ table.rows = take_all i row_items le ∙ row_items_is in
-    ap (sort row_cmp) (rows_is ∙ (λ j. map (values_at (named j)) (filter (passes_at (kept j) query.keep) (all j))))
-    ∙ sym (selected-place query table)
+pub selected_whole : (query : Query) (columns : List Column) (all rows : List Row) (places : List (Option ℕ)) (tested : Option ℕ) (items : List (List ℕ)) (i : ℕ)
+    → items ≡ query.items → places ≡ map (place_of columns) items → tested ≡ tested_place columns query.keep
+    → rows ≡ map (values_at places) (filter (passes_at tested query.keep) (take i all)) → length all ≤ i → sort row_cmp rows ≡ selected query columns all
+selected_whole query columns all rows places tested items i items_is places_is tested_is rows_is le =
+    let named : places ≡ map (place_of columns) query.items = places_is ∙ ap (map (place_of columns)) items_is in
+    ap (sort row_cmp) (rows_is ∙ (λ j. map (values_at (named j)) (filter (passes_at (tested_is j) query.keep) (take_all i all le j))))
+    ∙ sym (selected-place query columns all)

@@ -2,8 +2,9 @@
 ghost use Rattle.std.specs.Prelude.{◌≡◌, [], IfOk};
 ghost use Rattle.std.specs.List.{list_any};
 ghost use Rattle.std.specs.Option.{option_copied};
-ghost use Rattle.std.specs.FinMap as map;
-ghost use Rattle.dw_model.specs.Binding.{bound_refusal, create_refusal, first_refusal, first_unknown, insert_refusal, names_in, names_of, query_refusal, refused_name, repeated_after, rows_go_with, same_name, test_goes_with, test_refusal, tested_column};
+ghost use Rattle.std.specs.Result.{result_err};
+ghost use Rattle.dw_model.specs.Binding.{bound_insert, bound_query, bound_refusal, columns_refusal, create_refusal, first_unknown, names_in, names_of, repeated_after, rows_go_with, rows_refusal, same_name, test_goes_with, tested_column};
+ghost use Rattle.dw_model.specs.Databases.{def_of};
 
 use crate::columns::{column_at, row_goes_with};
 use dw_model::{Column, ColumnSpec, Database, Query, Refusal, Statement, TableSpec, Test};
@@ -11,18 +12,19 @@ use dw_value::{List, Row, Text, goes_with};
 use std::alloc::AllocError;
 
 /// The refusal of a statement whose names or kinds don't fit the database, and none where they do. The first of these
-/// counts: an unknown table; a table that is there already, or a doubled column, of CREATE TABLE; an unknown column, in the
-/// order in which the statement names them; a row of another width, or a value or a literal of another class than its
-/// column. The order is this project's own.
+/// counts: an unknown table; a table that is there already, or a doubled column, of CREATE TABLE; an unknown column,
+/// in the order in which the statement names them; a row of another width, or a value or a literal of another class
+/// than its column. The order is this project's own. Statements that begin and end blocks, and VACUUM, are not for a
+/// database: they are refused with `Syntax`.
 pub fn bound_refusal(
     statement: &Statement,
     database: &Database,
 ) -> Result<Option<Refusal>, AllocError>
-    ensures { IfOk result (λ refusal. refusal ≡ bound_refusal statement.now database.now) }
+    ensures { IfOk result (λ refusal. refusal ≡ bound_refusal statement.now (def_of database.now)) }
 {
     match statement {
         Statement::Begin | Statement::Commit | Statement::Rollback | Statement::Vacuum { .. } => Ok(
-            None,
+            Some(Refusal::Syntax { place: 0 }),
         ),
         Statement::Create { spec } => create_refusal(spec, database),
         Statement::Insert { table, rows } => insert_refusal(table, rows, database),
@@ -30,8 +32,12 @@ pub fn bound_refusal(
     }
 }
 
-fn create_refusal(spec: &TableSpec, database: &Database) -> Result<Option<Refusal>, AllocError>
-    ensures { IfOk result (λ refusal. refusal ≡ create_refusal spec.now (map.get database.now spec.now.name)) }
+/// What CREATE TABLE is refused for.
+pub(crate) fn create_refusal(
+    spec: &TableSpec,
+    database: &Database,
+) -> Result<Option<Refusal>, AllocError>
+    ensures { IfOk result (λ refusal. refusal ≡ create_refusal spec.now (def_of database.now spec.now.name)) }
 {
     match database.get(&spec.name) {
         Some(_) => Ok(Some(Refusal::Exists {
@@ -72,43 +78,53 @@ fn insert_refusal(
     rows: &List<Row>,
     database: &Database,
 ) -> Result<Option<Refusal>, AllocError>
-    ensures { IfOk result (λ refusal. refusal ≡ insert_refusal table.now rows.now (map.get database.now table.now)) }
+    ensures { IfOk result (λ refusal. refusal ≡
+        result_err (bound_insert table.now rows.now (def_of database.now table.now))) }
 {
     match database.get(table) {
         None => Ok(Some(Refusal::Unknown {
             name: table.copy()?,
         })),
-        Some(found) => {
-            if rows_go_with(found.def.columns.as_slice(), rows.as_slice()) {
-                Ok(None)
-            } else {
-                Ok(Some(Refusal::Clash))
-            }
-        }
+        Some(found) => Ok(rows_refusal(found.def.columns.as_slice(), rows.as_slice())),
+    }
+}
+
+/// What rows for a table of these columns are refused for. It takes no memory.
+pub(crate) fn rows_refusal(columns: &[Column], rows: &[Row]) -> Option<Refusal>
+    ensures { result ≡ rows_refusal columns.now rows.now }
+{
+    if rows_go_with(columns, rows) {
+        None
+    } else {
+        Some(Refusal::Clash)
     }
 }
 
 // Whether all rows have a value for each of these columns, each of the class that the column takes.
-pub(crate) fn rows_go_with(columns: &[Column], rows: &[Row]) -> bool
+fn rows_go_with(columns: &[Column], rows: &[Row]) -> bool
     ensures { result ≡ rows_go_with columns.now rows.now }
 {
     rows.iter().all(|row| row_goes_with(columns, row))
 }
 
 fn query_refusal(query: &Query, database: &Database) -> Result<Option<Refusal>, AllocError>
-    ensures { IfOk result (λ refusal. refusal ≡ query_refusal query.now (map.get database.now query.now.table)) }
+    ensures { IfOk result (λ refusal. refusal ≡
+        result_err (bound_query query.now (def_of database.now query.now.table))) }
 {
     match database.get(&query.table) {
         None => Ok(Some(Refusal::Unknown {
             name: query.table.copy()?,
         })),
-        Some(found) => columns_refusal(query, found.def.columns.as_slice()),
+        Some(found) => columns_refusal(found.def.columns.as_slice(), query),
     }
 }
 
-fn columns_refusal(query: &Query, columns: &[Column]) -> Result<Option<Refusal>, AllocError>
-    ensures { IfOk result (λ refusal. refusal ≡
-        first_refusal (refused_name Refusal.Unknown (first_unknown columns.now (names_in query.now))) (test_refusal columns.now query.now.keep)) }
+/// What a query of a table of these columns is refused for.
+pub(crate) fn columns_refusal(
+    columns: &[Column],
+    query: &Query,
+) -> Result<Option<Refusal>, AllocError>
+    ensures { IfOk result (λ refusal. refusal ≡ columns_refusal columns.now query.now) }
 {
     if let Some(name) = unknown_name(columns, query) {
         return Ok(Some(Refusal::Unknown { name: name.copy()? }));

@@ -1,41 +1,32 @@
 //! CREATE TABLE.
 ghost use Rattle.std.specs.Prelude.{◌≡◌, IfOk, map as mapped};
-ghost use Rattle.std.specs.FinMap as map;
-ghost use Rattle.dw_model.specs.Alone.{column_made, table_made};
+ghost use Rattle.dw_model.specs.Alone.{create_outcome};
+ghost use Rattle.dw_model.specs.Binding.{column_made, def_made};
 
-use dw_model::{Answer, Column, ColumnSpec, Database, Plain, Table, TableDef, TableSpec, Word};
+use dw_model::{Answer, Change, Column, ColumnSpec, Outcome, TableDef, TableSpec, Word};
 use dw_value::List;
 use std::alloc::{AllocError, Global};
 
-/// What CREATE TABLE gives, once its names are known to be new: the database with a table of no rows.
-pub(crate) fn create(
-    alloc: Global,
-    spec: &TableSpec,
-    database: &Database,
-) -> Result<Plain, AllocError>
-    ensures { IfOk result (λ plain. plain ≡
-        Plain.Done (Answer.Plain Word.CreateTable) (map.insert database.now spec.now.name (table_made spec.now))) }
+/// What CREATE TABLE comes to, once its names are known to be new: a table without rows is made.
+pub(crate) fn create(alloc: Global, spec: &TableSpec) -> Result<Outcome, AllocError>
+    ensures { IfOk result (λ outcome. outcome ≡ create_outcome spec.now.name (def_made spec.now)) }
 {
     let columns = columns_made(alloc, spec.columns.as_slice())?;
-    let table = Table {
-        def: TableDef { columns },
-        rows: List::new(alloc),
-    };
-    let name = spec.name.copy()?;
-    let mut next = database.copy()?;
-    next.put(name, table)?;
-    Ok(Plain::Done {
+    Ok(Outcome {
         answer: Answer::Plain {
             word: Word::CreateTable,
         },
-        next,
+        change: Change::Creates {
+            table: spec.name.copy()?,
+            def: TableDef { columns },
+        },
     })
 }
 
 fn columns_made(alloc: Global, columns: &[ColumnSpec]) -> Result<List<Column>, AllocError>
     ensures { IfOk result (λ made. made ≡ mapped column_made columns.now) }
 {
-    let mut made = List::new(alloc);
+    let mut made = List::with_capacity(alloc, columns.len())?;
     for column in columns {
         made.push(column_made(column)?)?;
     }

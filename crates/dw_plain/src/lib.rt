@@ -11,14 +11,14 @@ mod select;
 
 pub use bind::bound_refusal;
 pub use columns::{column_at, column_place, row_goes_with};
-pub use insert::inserted_rows;
-pub use run::plain_run;
+pub use run::{plain_outcome, plain_run};
 
 #[cfg(test)]
 mod tests {
-    use super::{inserted_rows, plain_run};
+    use super::{plain_outcome, plain_run};
     use dw_model::{
-        Answer, ColumnSpec, Database, Plain, Query, Refusal, Statement, TableSpec, Test,
+        Answer, Change, ColumnSpec, Database, FileMap, Plain, Query, Refusal, Statement, TableSpec,
+        Test,
     };
     use dw_value::{Comparison, Field, Kind, List, Row, Text, Value};
     use std::alloc::{AllocError, Global};
@@ -26,7 +26,7 @@ mod tests {
     use std::test::Fail;
 
     // What each statement is answered or refused with, one after another. A column is written with the bytes of its
-    // VARCHAR or 0 for INTEGER, a text behind a quote, and a condition before the items.
+    // VARCHAR or 0 for INTEGER, a text after a quote, and a condition before the items.
     const TABLES: &str = "create t x:0 s:3 => done
 create t x:0 => exists t
 create t x:0 x:0 => exists t
@@ -204,7 +204,7 @@ select u y => unknown u";
     // What a statement is answered or refused with. The database becomes the next one.
     fn told(alloc: Global, text: &str, database: &mut Database) -> Result<String, AllocError> {
         let statement = statement(alloc, text)?;
-        match plain_run(alloc, &statement, database)? {
+        match plain_run(alloc, &statement, database, &FileMap::new(alloc))? {
             Plain::Refused(refusal) => refusal_text(alloc, &refusal),
             Plain::Done { answer, next } => {
                 *database = next;
@@ -238,19 +238,20 @@ select u y => unknown u";
         Ok(())
     }
 
-    // The rows that each statement adds to `t`, whose columns are an INTEGER and a VARCHAR of 3 bytes.
-    const ADDED: &str = "insert t 2 'b , 1 null => | 2 b | 1 \\N
-insert t 2 'b , 2 'b => | 2 b | 2 b
-insert t 2 'b , 2147483648 'b =>
-insert t 2 'b , 'a 'b =>
-insert t 2 'b , 1 =>
-insert u 1 'b =>
-create u x:0 =>
-select t x =>";
+    // What each statement changes where there is a table `t` of an INTEGER and a VARCHAR of 3 bytes.
+    const CHANGES: &str = "insert t 2 'b , 1 null => t | 2 b | 1 \\N
+insert t 2 'b , 2 'b => t | 2 b | 2 b
+insert t 2 'b , 2147483648 'b => range
+insert t 2 'b , 'a 'b => clash
+insert t 2 'b , 1 => clash
+insert u 1 'b => unknown u
+create t x:0 => exists t
+create u x:0 y:3 => u x y
+select t x => nothing
+select t y => unknown y";
 
-    // The values of each row behind a bar.
-    fn added_text(alloc: Global, rows: &[Row]) -> Result<String, AllocError> {
-        let mut text = String::new(alloc);
+    // The values of each row after a bar.
+    fn added_text(alloc: Global, text: &mut String, rows: &[Row]) -> Result<(), AllocError> {
         for row in rows {
             text.push_str(" |")?;
             for value in row.values.as_slice() {
@@ -262,23 +263,50 @@ select t x =>";
                 text.push_str(shown.as_str())?;
             }
         }
-        Ok(text)
+        Ok(())
+    }
+
+    // The table that a change names, with its columns, or the rows that go and come.
+    fn change_text(alloc: Global, change: &Change) -> Result<String, AllocError> {
+        match change {
+            Change::Unchanged => String::from_str(alloc, "nothing"),
+            Change::Drops { table } => format!(in alloc; "{} goes", table.as_str()),
+            Change::Creates { table, def } => {
+                let mut text = String::from_str(alloc, table.as_str())?;
+                for column in def.columns.as_slice() {
+                    text.push(' ')?;
+                    text.push_str(column.name.as_str())?;
+                }
+                Ok(text)
+            }
+            Change::Alters { table, gone, added } => {
+                let mut text = String::from_str(alloc, table.as_str())?;
+                added_text(alloc, &mut text, gone.as_slice())?;
+                added_text(alloc, &mut text, added.as_slice())?;
+                Ok(text)
+            }
+        }
+    }
+
+    // What a statement changes, or why it is refused.
+    fn changed(alloc: Global, text: &str, database: &Database) -> Result<String, AllocError> {
+        let statement = statement(alloc, text)?;
+        let outcome = plain_outcome(alloc, &statement, database, &FileMap::new(alloc))?;
+        match &outcome {
+            Ok(outcome) => change_text(alloc, &outcome.change),
+            Err(refusal) => refusal_text(alloc, refusal),
+        }
     }
 
     #[test]
-    fn rows_are_added(rt: HostRuntime) -> Result<(), Fail> {
+    fn statements_change_tables(rt: HostRuntime) -> Result<(), Fail> {
         let alloc = rt.alloc();
         let mut database = Database::new(alloc);
         told(alloc, "create t x:0 s:3", &mut database)?;
-        for line in ADDED.lines() {
-            let (text, wanted) = line.split_once(" =>").ok_or("a row has two parts")?;
-            let statement = statement(alloc, text)?;
-            let rows = inserted_rows(alloc, &statement, &database)?;
-            assert_eq!(rt;
-                added_text(alloc, rows.as_slice())?.as_str(),
-                wanted,
-                "{line}"
-            );
+        for line in CHANGES.lines() {
+            let (text, wanted) = line.split_once(" => ").ok_or("a row has two parts")?;
+            let changed = changed(alloc, text, &database)?;
+            assert_eq!(rt; changed.as_str(), wanted, "{line}");
         }
         Ok(())
     }

@@ -1,54 +1,56 @@
 //! SELECT of some columns of one table's rows.
 ghost use Rattle.std.specs.Prelude.{◌≡◌, IfOk, map as mapped};
-ghost use Rattle.std.specs.FinMap as map;
 ghost use Rattle.std.specs.Option.{option_copied};
-ghost use Rattle.dw_model.specs.Alone.{select_done};
+ghost use Rattle.dw_model.specs.Alone.{select_outcome};
 ghost use Rattle.dw_model.specs.Selection.{fields_of, selected};
 ghost use Rattle.dw_plain.specs.Places.{found_at, passes_at, place_of, tested_place, values_at};
 
 use crate::columns::column_place;
-use dw_model::{Answer, Column, Database, Plain, Query, Refusal, Table, Test, Word};
+use dw_model::{Answer, Change, Column, Outcome, Query, Test, Word};
 use dw_value::{Field, List, Row, Text, Truth, Value, show, sort_rows};
 use std::alloc::{AllocError, Global};
 
-/// What SELECT gives, once its names and kinds are known to fit: the items of the rows that pass, in ascending order, and
-/// the database as it is.
-pub(crate) fn select(alloc: Global, query: &Query, database: &Database) -> Result<Plain, AllocError>
-    ensures { IfOk result (λ plain. plain ≡ select_done query.now database.now (map.get database.now query.now.table)) }
+/// What SELECT from a table of these columns and rows comes to, once its names and kinds are known to fit: the items
+/// of the rows that pass, in ascending order. It changes nothing.
+pub(crate) fn select(
+    alloc: Global,
+    columns: &[Column],
+    query: &Query,
+    rows: &[Row],
+) -> Result<Outcome, AllocError>
+    ensures { IfOk result (λ outcome. outcome ≡ select_outcome columns.now query.now rows.now) }
 {
-    let Some(table) = database.get(&query.table) else {
-        return Ok(Plain::Refused(Refusal::Unknown {
-            name: query.table.copy()?,
-        }));
-    };
-    let rows = selected_rows(alloc, query, table)?;
+    let rows = selected_rows(alloc, query, columns, rows)?;
     let rows = shown_rows(alloc, rows.as_slice())?;
-    let names = copied_names(alloc, query.items.as_slice())?;
-    let next = database.copy()?;
-    Ok(Plain::Done {
+    let names = query.items.copy()?;
+    Ok(Outcome {
         answer: Answer::Rows {
             word: Word::Select,
             names,
             rows,
         },
-        next,
+        change: Change::Unchanged,
     })
 }
 
 // The rows of the answer. Each name is looked up once.
-fn selected_rows(alloc: Global, query: &Query, table: &Table) -> Result<List<Row>, AllocError>
-    ensures { IfOk result (λ rows. rows ≡ selected query.now table.now) }
+fn selected_rows(
+    alloc: Global,
+    query: &Query,
+    columns: &[Column],
+    rows: &[Row],
+) -> Result<List<Row>, AllocError>
+    ensures { IfOk result (λ answer. answer ≡ selected query.now columns.now rows.now) }
 {
-    let columns = table.def.columns.as_slice();
     let places = places_of(alloc, columns, query.items.as_slice())?;
     let tested = place_tested(columns, &query.keep);
-    let mut rows = List::new(alloc);
-    for row in table.rows.as_slice() {
+    let mut answer = List::new(alloc);
+    for row in rows {
         if row_passes(&query.keep, tested, row) {
-            rows.push(row_at(alloc, row, places.as_slice())?)?;
+            answer.push(row_at(alloc, row, places.as_slice())?)?;
         }
     }
-    sort_rows(rows)
+    sort_rows(answer)
 }
 
 fn places_of(
@@ -58,7 +60,7 @@ fn places_of(
 ) -> Result<Vec<Option<usize>>, AllocError>
     ensures { IfOk result (λ places. places.items ≡ mapped (place_of columns.now) names.now) }
 {
-    let mut places = Vec::new(alloc);
+    let mut places = Vec::with_capacity(alloc, names.len())?;
     for name in names {
         places.push(column_place(columns, name))?;
     }
@@ -105,7 +107,7 @@ fn value_at(row: &Row, place: Option<usize>) -> Option<&Value>
 fn row_at(alloc: Global, row: &Row, places: &[Option<usize>]) -> Result<Row, AllocError>
     ensures { IfOk result (λ made. made ≡ values_at places.now row.now) }
 {
-    let mut values = List::new(alloc);
+    let mut values = List::with_capacity(alloc, places.len())?;
     for place in places {
         let value = match value_at(row, *place) {
             Some(value) => value.copy()?,
@@ -119,7 +121,7 @@ fn row_at(alloc: Global, row: &Row, places: &[Option<usize>]) -> Result<Row, All
 fn shown_rows(alloc: Global, rows: &[Row]) -> Result<List<List<Field>>, AllocError>
     ensures { IfOk result (λ shown. shown ≡ mapped fields_of rows.now) }
 {
-    let mut shown = List::new(alloc);
+    let mut shown = List::with_capacity(alloc, rows.len())?;
     for row in rows {
         shown.push(shown_row(alloc, row)?)?;
     }
@@ -129,19 +131,9 @@ fn shown_rows(alloc: Global, rows: &[Row]) -> Result<List<List<Field>>, AllocErr
 fn shown_row(alloc: Global, row: &Row) -> Result<List<Field>, AllocError>
     ensures { IfOk result (λ fields. fields ≡ fields_of row.now) }
 {
-    let mut fields = List::new(alloc);
+    let mut fields = List::with_capacity(alloc, row.values.len())?;
     for value in row.values.as_slice() {
         fields.push(show(alloc, value)?)?;
     }
     Ok(fields)
-}
-
-fn copied_names(alloc: Global, names: &[Text]) -> Result<List<Text>, AllocError>
-    ensures { IfOk result (λ copied. copied ≡ names.now) }
-{
-    let mut copied = List::new(alloc);
-    for name in names {
-        copied.push(name.copy()?)?;
-    }
-    Ok(copied)
 }
