@@ -1,6 +1,6 @@
 -- Of the events that are due of a session, just one is legal, but for want of memory.
-use Rattle.std.proofs.Common.{inl, inr, ◌≡◌, ◌≢◌, ℕ, zero, suc, ◌+◌, ◌<◌, ◌≤◌, Bool, true, false, List, [], ◌∷◌, length, refl, sym, ap, subst, ◌∙◌, arith}
-use Rattle.std.specs.Prelude.{Option, Some, None, ◌⊎◌, if◌then◌else◌, nat_lt}
+use Rattle.std.proofs.Common.{inl, inr, ◌≡◌, ℕ, ◌+◌, ◌<◌, Bool, true, false, List, [], ◌∷◌, length, refl, sym, ap, ◌∙◌, arith}
+use Rattle.std.specs.Prelude.{Option, Some, None, ◌⊎◌, if◌then◌else◌}
 use Rattle.dw_model.specs.declared.answers.Answer.{Answer as Reply}
 use Rattle.dw_model.specs.declared.answers.Plain.{Plain}
 use Rattle.dw_model.specs.declared.answers.Plain.TheVariants.{Done}
@@ -9,27 +9,26 @@ use Rattle.dw_model.specs.declared.refusals.Refusal.TheVariants.{Memory}
 use Rattle.dw_model.specs.declared.statements.Statement.{Statement}
 use Rattle.dw_model.specs.declared.statements.Statement.TheVariants as forms
 use Rattle.dw_model.specs.Databases.{Tables}
-use Rattle.dw_model.specs.Binding.{bound_refusal}
-use Rattle.dw_model.specs.Alone.{alone}
 use Rattle.dw_model.specs.Limits.{limit_refusal}
 use Rattle.dw_journal.specs.declared.Event.{Event}
 use Rattle.dw_journal.specs.declared.Event.TheVariants.{Begin, Pass, Wait, Opened, Answer, Commit, Violation, Refuse, Rollback, VacuumBegin, VacuumSlice, VacuumEnd, Refresh, End}
 use Rattle.dw_journal.specs.declared.Given.{Given}
 use Rattle.dw_journal.specs.declared.Given.TheVariants.{Read, Refused}
 use Rattle.dw_journal.specs.declared.Shape.{Shape}
-use Rattle.dw_journal.specs.History.{Scripts, given_at, read_in, statement_at, session_of, last_of, taken}
-use Rattle.dw_journal.specs.Blocks.{Block, Outside, Within, Aborted, block_of, is_memory}
-use Rattle.dw_journal.specs.Transactions.{Transaction, transaction_of}
-use Rattle.dw_journal.specs.Contents.{view, contents}
-use Rattle.dw_journal.specs.Vacuums.{sweeper, slices_in}
-use Rattle.dw_journal.specs.Locks.{wants_of, wants_in, blockers, sweep_lock}
-use Rattle.dw_journal.specs.Turns.{Call, IsForeign, Begins, Commits, RollsBack, Sweeps, Works, call_of, Turn, AnswerOf, CommitOf, SliceOf, SweepEndOf, Taking, AtEnd, Idle, Nothing, turn_of, turn_after, answered_turn, sweeping, taking, next_turn}
-use Rattle.dw_journal.specs.Follows.{IsAnswer, is_answer, is_answer_refused, IsDecision, is_commit, is_violation, is_commit_refused, IsOpening, is_wait, is_opening_refused, is_opened, IsSweepOpening, is_sweep_wait, is_sweep_refused, is_sweep_begin, IsTaken, foreign, begin_outside, begin_within, begin_aborted, commit_outside, commit_of_nothing, commit_within, commit_aborted, rollback_outside, rollback_within, rollback_aborted, vacuum_outside, vacuum_within, vacuum_aborted, work_outside, work_within, work_aborted, IsDue, answers, decides, rebuilds, has_rebuilt, takes, ends, sweeps, FollowsAfter, due, refreshes}
-use Rattle.dw_journal.specs.Legal.{IsLegalAfter, IsWait, IsWaitOf, IsLockWait, IsLegalAnswer, IsLegalOpened, IsLegalCommit, IsLegalViolation, IsLegalSweep, IsRefusal, IsTakingRefusal, IsCommitRefusal, IsWorkRefusal, blockers_of, cycle_of, opening_refusal, unless_blocked, sweep_refusal, table_refusal, work_refusal}
-use Rattle.dw_journal.specs.Driven.{is_memory_refusal}
+use Rattle.dw_journal.specs.declared.BlockState.{BlockState}
+use Rattle.dw_journal.specs.declared.BlockState.TheVariants.{Outside, Within, Aborted}
+use Rattle.dw_model.specs.Files.{Files}
+use Rattle.dw_journal.specs.Worlds.{read_in}
+use Rattle.dw_journal.specs.History.{History, session_of}
+use Rattle.dw_journal.specs.Blocks.{is_memory}
+use Rattle.dw_journal.specs.Transactions.{Transaction}
+use Rattle.dw_journal.specs.Locks.{wants_in, sweep_lock}
+use Rattle.dw_journal.specs.Turns.{Call, Sweeps, Works, call_of, Turn, SliceOf, SweepEndOf, Taking, Idle, turn_after, taking}
+use Rattle.dw_journal.specs.Follows.{is_answer, is_answer_refused, is_commit, is_violation, is_commit_refused, is_wait, is_opening_refused, is_opened, is_sweep_wait, is_sweep_refused, is_sweep_begin, foreign, begin_outside, begin_within, begin_aborted, commit_outside, commit_of_nothing, commit_within, commit_aborted, rollback_outside, rollback_within, rollback_aborted, vacuum_outside, vacuum_within, vacuum_aborted, work_outside, work_within, work_aborted, IsDue, answers, decides, rebuilds, has_rebuilt, takes, ends, sweeps}
+use Rattle.dw_journal.specs.Legal.{IsLegalAfter, IsWait, IsLegalAnswer, IsWorkRefusal, unless_blocked, work_refusal}
 
 -- what is due of a session is an event of it
-pub due_session : {session : ℕ} {block : Block} {transaction : Option Transaction} {turn : Turn} {event : Event}
+pub due_session : {session : ℕ} {block : BlockState} {transaction : Option Transaction} {turn : Turn} {event : Event}
     → IsDue session block transaction turn event → session_of event ≡ Some session
 due_session (answers (is_answer answer)) = refl
 due_session (answers (is_answer_refused refusal)) = refl
@@ -67,34 +66,33 @@ due_session ends = refl
 due_session sweeps = refl
 
 -- legal but for the rule that a wait isn't repeated
-abbrev pub IsLegalBut : Shape → Scripts → List Event → Event → Type 0
-IsLegalBut shape scripts older (Wait session statement holders) = IsWait shape scripts older session statement holders
-IsLegalBut shape scripts older event = IsLegalAfter shape scripts older event
+abbrev pub IsLegalBut : History → Event → Type 0
+IsLegalBut older (Wait session statement holders) = IsWait older session statement holders
+IsLegalBut older event = IsLegalAfter older event
 
-pub legal_but : (shape : Shape) (scripts : Scripts) (older : List Event) (event : Event)
-    → IsLegalAfter shape scripts older event → IsLegalBut shape scripts older event
-legal_but shape scripts older (Begin session statement) legal = legal
-legal_but shape scripts older (Pass session statement word) legal = legal
-legal_but shape scripts older (Wait session statement holders) legal = legal.0
-legal_but shape scripts older (Opened session statement snapshot route) legal = legal
-legal_but shape scripts older (Answer session statement answer) legal = legal
-legal_but shape scripts older (Commit session statement stamp low high) legal = legal
-legal_but shape scripts older (Violation session statement low high object) legal = legal
-legal_but shape scripts older (Refuse session statement refusal) legal = legal
-legal_but shape scripts older (Rollback session statement) legal = legal
-legal_but shape scripts older (VacuumBegin session statement table) legal = legal
-legal_but shape scripts older (VacuumSlice session statement slice horizon) legal = legal
-legal_but shape scripts older (VacuumEnd session statement) legal = legal
-legal_but shape scripts older (Refresh cluster stamp) legal = legal
-legal_but shape scripts older (End session) legal = legal
+pub legal_but : (older : History) (event : Event) → IsLegalAfter older event → IsLegalBut older event
+legal_but older (Begin session statement) legal = legal
+legal_but older (Pass session statement word) legal = legal
+legal_but older (Wait session statement holders) legal = legal.0
+legal_but older (Opened session statement snapshot route) legal = legal
+legal_but older (Answer session statement answer) legal = legal
+legal_but older (Commit session statement stamp low high) legal = legal
+legal_but older (Violation session statement low high object) legal = legal
+legal_but older (Refuse session statement refusal) legal = legal
+legal_but older (Rollback session statement) legal = legal
+legal_but older (VacuumBegin session statement table) legal = legal
+legal_but older (VacuumSlice session statement slice horizon) legal = legal
+legal_but older (VacuumEnd session statement) legal = legal
+legal_but older (Refresh cluster stamp) legal = legal
+legal_but older (End session) legal = legal
 
 -- two answers of a statement are the same, and an answered statement isn't refused
 same_done : (a b : Reply) (m n : Tables) → ◌≡◌ {A = Plain} (Done a m) (Done b n) → a ≡ b
 same_done a b m n e = cc
 
-pub same_answer : (statement : Option Statement) (tables : Tables) (a b : Reply) → IsLegalAnswer statement tables a → IsLegalAnswer statement tables b → a ≡ b
-same_answer None tables a b first second = absurd first
-same_answer (Some statement) tables a b first second = same_done a b first.0 second.0 (sym first.1 ∙ second.1)
+pub same_answer : (files : Files) (statement : Option Statement) (tables : Tables) (a b : Reply) → IsLegalAnswer files statement tables a → IsLegalAnswer files statement tables b → a ≡ b
+same_answer files None tables a b first second = absurd first
+same_answer files (Some statement) tables a b first second = same_done a b first.0 second.0 (sym first.1 ∙ second.1)
 
 pub same_refusal : (found : Option Refusal) (a b : Refusal) → found ≡ Some a → found ≡ Some b → a ≡ b
 same_refusal found a b first second = cc
@@ -102,19 +100,19 @@ same_refusal found a b first second = cc
 pub not_memory : (refusal : Refusal) → refusal ≡ Memory → is_memory refusal ≡ false → ⊥
 not_memory refusal is none = cc (ap is_memory is, none)
 
-pub work_refused : (statement : Option Statement) (tables : Tables) (refusal : Refusal) → (refusal ≡ Memory) ⊎ IsWorkRefusal statement tables refusal
-    → is_memory refusal ≡ false → IsWorkRefusal statement tables refusal
-work_refused statement tables refusal (inl is) none = absurd (not_memory refusal is none)
-work_refused statement tables refusal (inr is) none = is
+pub work_refused : (files : Files) (statement : Option Statement) (tables : Tables) (refusal : Refusal) → (refusal ≡ Memory) ⊎ IsWorkRefusal files statement tables refusal
+    → is_memory refusal ≡ false → IsWorkRefusal files statement tables refusal
+work_refused files statement tables refusal (inl is) none = absurd (not_memory refusal is none)
+work_refused files statement tables refusal (inr is) none = is
 
-pub same_work_refusal : (statement : Option Statement) (tables : Tables) (a b : Refusal) → IsWorkRefusal statement tables a → IsWorkRefusal statement tables b → a ≡ b
-same_work_refusal None tables a b first second = absurd first
-same_work_refusal (Some statement) tables a b first second = same_refusal _ a b first second
+pub same_work_refusal : (files : Files) (statement : Option Statement) (tables : Tables) (a b : Refusal) → IsWorkRefusal files statement tables a → IsWorkRefusal files statement tables b → a ≡ b
+same_work_refusal files None tables a b first second = absurd first
+same_work_refusal files (Some statement) tables a b first second = same_refusal _ a b first second
 
-pub answered_refused : (statement : Option Statement) (tables : Tables) (answer : Reply) (refusal : Refusal) → IsLegalAnswer statement tables answer
-    → IsWorkRefusal statement tables refusal → ⊥
-answered_refused None tables answer refusal is refused = is
-answered_refused (Some statement) tables answer refusal is refused =
+pub answered_refused : (files : Files) (statement : Option Statement) (tables : Tables) (answer : Reply) (refusal : Refusal) → IsLegalAnswer files statement tables answer
+    → IsWorkRefusal files statement tables refusal → ⊥
+answered_refused files None tables answer refusal is refused = is
+answered_refused files (Some statement) tables answer refusal is refused =
     let same : limit_refusal statement is.0 ≡ Some refusal = sym (ap (work_refusal statement) is.1) ∙ refused in
     cc (same, is.2)
 
@@ -142,7 +140,7 @@ sweeping_not shape k slice j call true is = cc
 sweeping_not shape k slice j call false is = cc
 
 -- so is each turn to take a statement
-pub turn_given : (shape : Shape) (block : Block) (last : Option Event) (k j : ℕ) (given : Option Given) (call : Call)
+pub turn_given : (shape : Shape) (block : BlockState) (last : Option Event) (k j : ℕ) (given : Option Given) (call : Call)
     → turn_after shape block last (taking k given) ≡ Taking j call → (g : Given) × (k ≡ j) × (given ≡ Some g) × (call_of g ≡ call)
 turn_given shape block None k j given call is = taking_given k j given call is
 turn_given shape block (Some (Begin session statement)) k j given call is = taking_given k j given call is
@@ -171,7 +169,7 @@ sweeping_busy k slice true is = cc
 sweeping_busy k slice false is = cc
 
 -- a session with a script is never idle
-pub turn_busy : (shape : Shape) (block : Block) (last : Option Event) (k : ℕ) (given : Option Given)
+pub turn_busy : (shape : Shape) (block : BlockState) (last : Option Event) (k : ℕ) (given : Option Given)
     → turn_after shape block last (taking k given) ≡ Idle → ⊥
 turn_busy shape block None k given is = taking_busy k given is
 turn_busy shape block (Some (Begin session statement)) k given is = taking_busy k given is

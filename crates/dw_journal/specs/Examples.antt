@@ -4,98 +4,101 @@ use Rattle.std.specs.Prelude.{ℕ, ◌==◌, ◌&&◌, if◌then◌else◌, List
 use Rattle.dw_model.specs.declared.answers.Answer.{Answer as Reply}
 use Rattle.dw_model.specs.declared.answers.Answer.TheVariants.{Plain}
 use Rattle.dw_model.specs.declared.answers.Word.TheVariants.{CreateTable}
-use Rattle.dw_model.specs.declared.tables.Object.{Object}
-use Rattle.dw_model.specs.declared.tables.Object.TheVariants.{Def, Rows}
+use Rattle.dw_model.specs.declared.objects.Object.{Object}
+use Rattle.dw_model.specs.declared.objects.Object.TheVariants.{Def, Rows}
 use Rattle.dw_journal.specs.declared.locks.Mode.TheVariants.{AccessExclusive}
 use Rattle.dw_journal.specs.declared.locks.Want.{Want}
 use Rattle.dw_journal.specs.declared.Event.{Event}
 use Rattle.dw_journal.specs.declared.Event.TheVariants.{Begin, Wait, Opened, Answer}
 use Rattle.dw_journal.specs.declared.Route.TheVariants.{Main}
-use Rattle.dw_journal.specs.Transactions.{Committed}
+use Rattle.dw_journal.specs.declared.Certified.{Certified}
+use Rattle.dw_journal.specs.declared.Taken.{Taken}
+use Rattle.dw_journal.specs.Transactions.{CommittedTransaction}
 use Rattle.dw_journal.specs.Watermarks.{low_watermark, high_watermark}
-use Rattle.dw_journal.specs.Edges.{Entry, marks_of}
-use Rattle.dw_journal.specs.Locks.{Wants}
+use Rattle.dw_journal.specs.Locks.{Wants, LockState}
 use Rattle.dw_journal.specs.Serial.{in_order}
-
--- what a transaction saw, read and wrote
-pub record Took : Type 0 where
-  pub snapshot : ℕ
-  pub reads : List Object
-  pub writes : List Object
 
 -- both objects of a table
 abbrev pub both : List ℕ → List Object
 both name = Def name ∷ Rows name ∷ []
 
 -- transactions of one statement: CREATE TABLE, a query, INSERT, and a change or deletion of rows
-abbrev pub creates : ℕ → List ℕ → Took
+abbrev pub creates : ℕ → List ℕ → Taken
 creates snapshot name = record { snapshot = snapshot; reads = both name; writes = both name }
 
-abbrev pub selects : ℕ → List ℕ → Took
+abbrev pub selects : ℕ → List ℕ → Taken
 selects snapshot name = record { snapshot = snapshot; reads = both name; writes = [] }
 
-abbrev pub inserts : ℕ → List ℕ → Took
+abbrev pub inserts : ℕ → List ℕ → Taken
 inserts snapshot name = record { snapshot = snapshot; reads = Def name ∷ []; writes = Rows name ∷ [] }
 
-abbrev pub changes : ℕ → List ℕ → Took
+abbrev pub changes : ℕ → List ℕ → Taken
 changes snapshot name = record { snapshot = snapshot; reads = both name; writes = Rows name ∷ [] }
 
 -- two statements of one transaction
-abbrev pub and_then : Took → Took → Took
+abbrev pub and_then : Taken → Taken → Taken
 and_then a b = record { snapshot = a.snapshot; reads = a.reads ++ b.reads; writes = a.writes ++ b.writes }
 
 -- these transactions, newest first, as they are committed one after another
-abbrev pub history_of : List Took → List Entry
-history_of [] = []
-history_of (took ∷ older) =
-    record { snapshot = took.snapshot; low = low_watermark took.snapshot took.reads (marks_of (history_of older)); reads = took.reads; writes = took.writes } ∷ history_of older
+abbrev pub certified_all : List Taken → List Certified
+certified_all [] = []
+certified_all (taken ∷ older) =
+    record { low = low_watermark taken (certified_all older); taken = taken } ∷ certified_all older
 
 -- their low watermarks and their high ones, in the order of the commits
-abbrev pub lows : List Took → List ℕ
-lows oldest_first = reverse (map (λ entry. entry.low) (history_of (reverse oldest_first)))
+abbrev pub lows : List Taken → List ℕ
+lows oldest_first = reverse (map (λ commit. commit.low) (certified_all (reverse oldest_first)))
 
-abbrev pub highs_of : List Took → List ℕ
+abbrev pub highs_of : List Taken → List ℕ
 highs_of [] = []
-highs_of (took ∷ older) = high_watermark took.snapshot took.reads took.writes (marks_of (history_of older)) ∷ highs_of older
+highs_of (taken ∷ older) = high_watermark taken (certified_all older) ∷ highs_of older
 
-abbrev pub highs : List Took → List ℕ
+abbrev pub highs : List Taken → List ℕ
 highs oldest_first = reverse (highs_of (reverse oldest_first))
 
 -- their stamps in serial order
-abbrev pub commits_of : List Entry → List Committed
+abbrev pub commits_of : List Certified → List CommittedTransaction
 commits_of [] = []
-commits_of (entry ∷ older) =
-    record { session = 1; stamp = length (entry ∷ older); low = entry.low; snapshot = entry.snapshot; answered = [] } ∷ commits_of older
+commits_of (commit ∷ older) =
+    record {
+      session = 1;
+      stamp = length (commit ∷ older);
+      low = commit.low;
+      snapshot = commit.taken.snapshot;
+      opened = [];
+      answered = [];
+    }
+    ∷ commits_of older
 
-abbrev pub order : List Took → List ℕ
-order oldest_first = map (λ commit. commit.stamp) (in_order (commits_of (history_of (reverse oldest_first))))
+abbrev pub order : List Taken → List ℕ
+order oldest_first = map (λ commit. commit.stamp) (in_order (commits_of (certified_all (reverse oldest_first))))
 
 -- Two sessions each read one table and write the other.
-abbrev pub write_skew : List Took
+abbrev pub write_skew : List Taken
 write_skew = creates 0 (codes "a") ∷ creates 1 (codes "b") ∷ and_then (selects 2 (codes "a")) (inserts 2 (codes "b")) ∷ []
 
-abbrev pub skewed : Took
+abbrev pub skewed : Taken
 skewed = and_then (selects 2 (codes "b")) (inserts 2 (codes "a"))
 
--- One session changes rows that another deleted behind its snapshot.
-abbrev pub lost_update : List Took
+-- One session changes rows that another deleted after its snapshot.
+abbrev pub lost_update : List Taken
 lost_update = creates 0 (codes "t") ∷ inserts 1 (codes "t") ∷ changes 2 (codes "t") ∷ []
 
-abbrev pub lost : Took
+abbrev pub lost : Taken
 lost = and_then (selects 2 (codes "t")) (changes 2 (codes "t"))
 
--- A reader commits behind the writer whose rows it didn't see, and comes first in serial order.
-abbrev pub reader_before_writer : List Took
+-- A reader commits after the writer whose rows it didn't see, and comes first in serial order.
+abbrev pub reader_before_writer : List Taken
 reader_before_writer = creates 0 (codes "t") ∷ creates 1 (codes "u") ∷ inserts 2 (codes "t") ∷ selects 2 (codes "t") ∷ []
 
 -- Three sessions, of which the last one's second transaction comes before its first in serial order.
-abbrev pub three_sessions : List Took
+abbrev pub three_sessions : List Taken
 three_sessions =
     creates 0 (codes "x") ∷ creates 1 (codes "y") ∷ creates 2 (codes "z") ∷ inserts 3 (codes "x") ∷ inserts 3 (codes "z")
     ∷ and_then (selects 3 (codes "x")) (inserts 3 (codes "y")) ∷ selects 5 (codes "y") ∷ []
 
--- Two sessions lock the tables a and b in blocks, in opposite order: session 1 by its statements 4 and 5, session 2 by its
--- statements 2 and 3.
+-- Two sessions lock the tables a and b in blocks, in opposite order: session 1 by its statements 4 and 5, session 2 by
+-- its statements 2 and 3.
 abbrev pub lock : List ℕ → List Want
 lock name = record { table = name; mode = AccessExclusive } ∷ []
 
@@ -116,3 +119,7 @@ first_locks =
 
 abbrev pub one_waits : List Event
 one_waits = Wait 1 5 (2 ∷ []) ∷ first_locks
+
+-- the locks at these events, where two sessions take part
+abbrev pub locks_at : List Event → LockState
+locks_at events = record { wants = crossed_wants; sessions = 2; events = events }

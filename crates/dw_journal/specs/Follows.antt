@@ -1,17 +1,21 @@
 -- Which event may come next by the scripts alone: that it is due. Each row of the tables is a case of these relations.
-use Rattle.std.specs.Prelude.{◌≡◌, ℕ, ◌≤◌, true, List, [], ◌∷◌, length, Option, Some, None}
+use Rattle.std.specs.Prelude.{◌≡◌, ℕ, ◌≤◌, true, List, [], ◌∷◌, Option, Some, None}
 use Rattle.dw_model.specs.declared.answers.Answer.{Answer as Reply}
 use Rattle.dw_model.specs.declared.answers.Word.TheVariants as words
 use Rattle.dw_model.specs.declared.refusals.Refusal.{Refusal}
 use Rattle.dw_model.specs.declared.statements.Statement.{Statement}
-use Rattle.dw_model.specs.declared.tables.Object.{Object}
+use Rattle.dw_model.specs.declared.objects.Object.{Object}
 use Rattle.dw_journal.specs.declared.Event.{Event}
 use Rattle.dw_journal.specs.declared.Event.TheVariants.{Begin, Pass, Wait, Opened, Answer, Commit, Violation, Refuse, Rollback, VacuumBegin, VacuumSlice, VacuumEnd, Refresh, End}
 use Rattle.dw_journal.specs.declared.Journal.{Journal}
 use Rattle.dw_journal.specs.declared.Route.{Route}
 use Rattle.dw_journal.specs.declared.Shape.{Shape}
-use Rattle.dw_journal.specs.History.{Scripts, IsSession, has_ended, history}
-use Rattle.dw_journal.specs.Blocks.{Block, Outside, Within, Aborted, block_of}
+use Rattle.dw_journal.specs.declared.BlockState.{BlockState}
+use Rattle.dw_journal.specs.declared.BlockState.TheVariants.{Outside, Within, Aborted}
+use Rattle.dw_journal.specs.declared.World.{World}
+use Rattle.dw_journal.specs.Worlds.{IsSession, session_count}
+use Rattle.dw_journal.specs.History.{History, events_of, has_ended}
+use Rattle.dw_journal.specs.Blocks.{block_of}
 use Rattle.dw_journal.specs.Transactions.{Transaction, transaction_of}
 use Rattle.dw_journal.specs.Turns.{Call, IsForeign, Begins, Commits, RollsBack, Sweeps, Works, Turn, AnswerOf, CommitOf, SliceOf, SweepEndOf, Taking, AtEnd, Idle, turn_of}
 
@@ -38,11 +42,11 @@ pub data IsSweepOpening (session k : ℕ) (table : List ℕ) : Event → Type 0 
   is_sweep_refused : (refusal : Refusal) → IsSweepOpening session k table (Refuse session k refusal)
   is_sweep_begin : IsSweepOpening session k table (VacuumBegin session k table)
 
--- What comes of the next statement k, by what it calls for and where the session stands: outside a block, in one, or in an
--- aborted one. A COMMIT in a block passes where no transaction is open, since nothing was opened in the block.
-pub data IsTaken (session k : ℕ) : Call → Block → Option Transaction → Event → Type 0 where
+-- What comes of the next statement k, by what it calls for and where the session stands: outside a block, in one, or in
+-- an aborted one. A COMMIT in a block passes where no transaction is open, since nothing was opened in the block.
+pub data IsTaken (session k : ℕ) : Call → BlockState → Option Transaction → Event → Type 0 where
   -- not in the grammar
-  foreign : {given refusal : Refusal} {block : Block} {transaction : Option Transaction}
+  foreign : {given refusal : Refusal} {block : BlockState} {transaction : Option Transaction}
       → IsTaken session k (IsForeign given) block transaction (Refuse session k refusal)
   -- BEGIN
   begin_outside : {transaction : Option Transaction} → IsTaken session k Begins Outside transaction (Begin session k)
@@ -74,9 +78,9 @@ pub data IsTaken (session k : ℕ) : Call → Block → Option Transaction → E
   work_aborted : {statement : Statement} {transaction : Option Transaction} {refusal : Refusal}
       → IsTaken session k (Works statement) Aborted transaction (Refuse session k refusal)
 
--- What comes of a session whose turn is this. Where nothing is due, nothing comes. The background worker's vacuum has the
--- statement 0.
-pub data IsDue (session : ℕ) (block : Block) (transaction : Option Transaction) : Turn → Event → Type 0 where
+-- What comes of a session whose turn is this. Where nothing is due, nothing comes. The background worker's vacuum has
+-- the statement 0.
+pub data IsDue (session : ℕ) (block : BlockState) (transaction : Option Transaction) : Turn → Event → Type 0 where
   answers : {k : ℕ} {event : Event} → IsAnswer session k event → IsDue session block transaction (AnswerOf k) event
   decides : {k : ℕ} {event : Event} → IsDecision session k event → IsDue session block transaction (CommitOf k) event
   rebuilds : {k slice horizon : ℕ} → IsDue session block transaction (SliceOf k slice) (VacuumSlice session k slice horizon)
@@ -86,21 +90,22 @@ pub data IsDue (session : ℕ) (block : Block) (transaction : Option Transaction
   ends : IsDue session block transaction AtEnd (End session)
   sweeps : {table : List ℕ} → IsDue session block transaction Idle (VacuumBegin session 0 table)
 
--- The event follows from the scripts after these older ones: it is due of a session, or of the background worker, which is
--- session 0. A refresh of a cluster always follows.
-pub data FollowsAfter (shape : Shape) (scripts : Scripts) (older : List Event) : Event → Type 0 where
-  due : {event : Event} (session : ℕ) → session ≤ length scripts
-      → IsDue session (block_of scripts session older) (transaction_of session older) (turn_of shape scripts session older) event
-      → FollowsAfter shape scripts older event
-  refreshes : {cluster stamp : ℕ} → FollowsAfter shape scripts older (Refresh cluster stamp)
+-- The event follows from the scripts after these older ones: it is due of a session, or of the background worker, which
+-- is session 0. A refresh of a cluster always follows.
+pub data FollowsAfter (older : History) : Event → Type 0 where
+  due : {event : Event} (session : ℕ) → session ≤ session_count older.world
+      → IsDue session (block_of older session) (transaction_of session older.events) (turn_of older session) event
+      → FollowsAfter older event
+  refreshes : {cluster stamp : ℕ} → FollowsAfter older (Refresh cluster stamp)
 
 -- each of these events follows after those before it
-abbrev pub EachFollows : Shape → Scripts → List Event → Type 0
-EachFollows shape scripts [] = Unit {0}
-EachFollows shape scripts (event ∷ older) = FollowsAfter shape scripts older event × EachFollows shape scripts older
+abbrev pub EachFollows : Shape → World → List Event → Type 0
+EachFollows shape world [] = Unit {0}
+EachFollows shape world (event ∷ older) =
+    FollowsAfter (record { shape = shape; world = world; events = older }) event × EachFollows shape world older
 
 -- the journal follows from the scripts: event by event, with as many sessions as scripts, each of them to its end
-pub record Follows (scripts : Scripts) (journal : Journal) : Type 0 where
-  pub each : EachFollows journal.shape scripts (history journal)
-  pub sessions : journal.shape.sessions ≡ length scripts
-  pub ends : (session : ℕ) → IsSession scripts session → has_ended session (history journal) ≡ true
+pub record Follows (world : World) (journal : Journal) : Type 0 where
+  pub each : EachFollows journal.shape world (events_of journal)
+  pub sessions : journal.shape.sessions ≡ session_count world
+  pub ends : (session : ℕ) → IsSession world session → has_ended session (events_of journal) ≡ true

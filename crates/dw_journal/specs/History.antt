@@ -1,37 +1,29 @@
--- What a list of events says of each session. Events stand newest first in all these definitions, so that one more
--- event leaves what was said of the older ones as it is; a journal lists them oldest first.
-use Rattle.std.specs.Prelude.{ℕ, ◌-◌, ◌≤◌, Bool, true, false, ◌==◌, if◌then◌else◌, List, [], ◌∷◌, length, reverse, slice_get, unwrap_or, Option, Some, None}
-use Rattle.dw_model.specs.declared.statements.Statement.{Statement}
+-- A journal in the making, and what its events say of each session. Events stand newest first in all these definitions,
+-- so that one more event leaves what was said of the older ones as it is; a journal lists them oldest first.
+use Rattle.std.specs.Prelude.{ℕ, Bool, true, false, ◌==◌, if◌then◌else◌, List, [], ◌∷◌, reverse, Option, Some, None}
 use Rattle.dw_journal.specs.declared.Event.{Event}
 use Rattle.dw_journal.specs.declared.Event.TheVariants.{Begin, Pass, Wait, Opened, Answer, Commit, Violation, Refuse, Rollback, VacuumBegin, VacuumSlice, VacuumEnd, Refresh, End}
-use Rattle.dw_journal.specs.declared.Given.{Given}
-use Rattle.dw_journal.specs.declared.Given.TheVariants.{Read, Refused}
 use Rattle.dw_journal.specs.declared.Journal.{Journal}
+use Rattle.dw_journal.specs.declared.Shape.{Shape}
+use Rattle.dw_journal.specs.declared.World.{World}
 
--- what a journal is read beside: the statements of each session's script, each of them read or refused
-abbrev pub Scripts : Type 0
-Scripts = List (List Given)
+-- what happened so far in a warehouse of this shape, beside this world; the newest event first
+pub record History : Type 0 where
+  pub shape : Shape
+  pub world : World
+  pub events : List Event
 
--- sessions with a script are numbered from 1
-abbrev pub IsSession : Scripts → ℕ → Type 0
-IsSession scripts session = (1 ≤ session) × (session ≤ length scripts)
+-- with one more event
+abbrev pub with_event : History → Event → History
+with_event history event = record history { events = event ∷ history.events }
 
--- the statements of a session's script
-abbrev pub script_of : Scripts → ℕ → List Given
-script_of scripts session = unwrap_or (slice_get scripts (session - 1)) []
+-- a journal's events, newest first
+abbrev pub events_of : Journal → List Event
+events_of journal = reverse journal.events
 
--- statement k of a session's script, from 1
-abbrev pub given_at : Scripts → ℕ → ℕ → Option Given
-given_at scripts session statement = slice_get (script_of scripts session) (statement - 1)
-
--- the statement that the grammar read there, if it did
-abbrev pub read_in : Option Given → Option Statement
-read_in None = None
-read_in (Some (Read statement)) = Some statement
-read_in (Some (Refused refusal)) = None
-
-abbrev pub statement_at : Scripts → ℕ → ℕ → Option Statement
-statement_at scripts session statement = read_in (given_at scripts session statement)
+-- a journal beside its world
+abbrev pub history_of : World → Journal → History
+history_of world journal = record { shape = journal.shape; world = world; events = events_of journal }
 
 -- the session that an event is of; a cluster's refresh is of none
 abbrev pub session_of : Event → Option ℕ
@@ -59,14 +51,14 @@ abbrev pub is_of : ℕ → Event → Bool
 is_of session event = is_session session (session_of event)
 
 -- a session's newest event
-abbrev pub last_of : ℕ → List Event → Option Event
-last_of session [] = None
-last_of session (event ∷ older) = if is_of session event then Some event else last_of session older
+abbrev pub newest_event : ℕ → List Event → Option Event
+newest_event session [] = None
+newest_event session (event ∷ older) = if is_of session event then Some event else newest_event session older
 
 -- the events up to a session's newest one
-abbrev pub up_to_last : ℕ → List Event → List Event
-up_to_last session [] = []
-up_to_last session (event ∷ older) = if is_of session event then event ∷ older else up_to_last session older
+abbrev pub up_to_newest : ℕ → List Event → List Event
+up_to_newest session [] = []
+up_to_newest session (event ∷ older) = if is_of session event then event ∷ older else up_to_newest session older
 
 -- whether it is the end of a script
 abbrev pub is_end : Option Event → Bool
@@ -76,31 +68,29 @@ is_end (Some event) = false
 
 -- whether a session's script is at its end
 abbrev pub has_ended : ℕ → List Event → Bool
-has_ended session events = is_end (last_of session events)
+has_ended session events = is_end (newest_event session events)
 
 -- How many statements of its script a session has taken once it has this event, where it had taken so many before. A
 -- statement that waits is still to be taken.
-abbrev pub taken_after : Event → ℕ → ℕ
-taken_after (Begin session statement) before = statement
-taken_after (Pass session statement word) before = statement
-taken_after (Wait session statement holders) before = before
-taken_after (Opened session statement snapshot route) before = statement
-taken_after (Answer session statement answer) before = statement
-taken_after (Commit session statement stamp low high) before = statement
-taken_after (Violation session statement low high object) before = statement
-taken_after (Refuse session statement refusal) before = statement
-taken_after (Rollback session statement) before = statement
-taken_after (VacuumBegin session statement table) before = statement
-taken_after (VacuumSlice session statement slice horizon) before = statement
-taken_after (VacuumEnd session statement) before = statement
-taken_after (Refresh cluster stamp) before = before
-taken_after (End session) before = before
+abbrev pub statements_after : Event → ℕ → ℕ
+statements_after (Begin session statement) before = statement
+statements_after (Pass session statement word) before = statement
+statements_after (Wait session statement holders) before = before
+statements_after (Opened session statement snapshot route) before = statement
+statements_after (Answer session statement answer) before = statement
+statements_after (Commit session statement stamp low high) before = statement
+statements_after (Violation session statement low high object) before = statement
+statements_after (Refuse session statement refusal) before = statement
+statements_after (Rollback session statement) before = statement
+statements_after (VacuumBegin session statement table) before = statement
+statements_after (VacuumSlice session statement slice horizon) before = statement
+statements_after (VacuumEnd session statement) before = statement
+statements_after (Refresh cluster stamp) before = before
+statements_after (End session) before = before
 
 -- how many statements of its script a session has taken
-abbrev pub taken : ℕ → List Event → ℕ
-taken session [] = 0
-taken session (event ∷ older) = if is_of session event then taken_after event (taken session older) else taken session older
-
--- a journal's events, newest first
-abbrev pub history : Journal → List Event
-history journal = reverse journal.events
+abbrev pub statements_taken : ℕ → List Event → ℕ
+statements_taken session [] = 0
+statements_taken session (event ∷ older) =
+    if is_of session event then statements_after event (statements_taken session older)
+    else statements_taken session older

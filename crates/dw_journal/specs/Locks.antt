@@ -1,6 +1,6 @@
--- Locks of tables, after the table-level locks of the Amazon Redshift guide: who holds them, who waits for whom, and the
--- cycle that a wait would close. What each statement wants is given by `wants`, so that these definitions speak of any
--- statements.
+-- Locks of tables, after the table-level locks of the Amazon Redshift guide: who holds them, who waits for whom, and
+-- the cycle that a wait would close. What each statement wants is given by `wants`, so that these definitions speak of
+-- any statements.
 use Rattle.std.specs.Prelude.{ℕ, suc, zero, Bool, true, false, not, ◌==◌, ◌&&◌, if◌then◌else◌, List, [], ◌∷◌, ◌++◌, map, flat_map, Option, Some, None}
 use Rattle.std.specs.List.{filter, list_any, find, range_with_len}
 use Rattle.std.specs.Option.{option_or}
@@ -12,7 +12,9 @@ use Rattle.dw_journal.specs.declared.locks.Mode.TheVariants.{AccessShare, ShareR
 use Rattle.dw_journal.specs.declared.locks.Want.{Want}
 use Rattle.dw_journal.specs.declared.Event.{Event}
 use Rattle.dw_journal.specs.declared.Event.TheVariants.{Wait}
-use Rattle.dw_journal.specs.History.{Scripts, statement_at, last_of}
+use Rattle.dw_journal.specs.declared.World.{World}
+use Rattle.dw_journal.specs.Worlds.{session_count, statement_at}
+use Rattle.dw_journal.specs.History.{History, newest_event}
 use Rattle.dw_journal.specs.Transactions.{opened_statements}
 use Rattle.dw_journal.specs.Vacuums.{swept_by}
 
@@ -29,8 +31,8 @@ abbrev pub wants_in : Option Statement → List Want
 wants_in (Some (Vacuum table)) = sweep_lock table ∷ []
 wants_in statement = []
 
-abbrev pub wants_of : Scripts → Wants
-wants_of scripts session statement = wants_in (statement_at scripts session statement)
+abbrev pub wants_of : World → Wants
+wants_of world session statement = wants_in (statement_at world session statement)
 
 -- locks in these modes can't stand side by side
 abbrev pub conflict : Mode → Mode → Bool
@@ -50,35 +52,45 @@ abbrev pub sweep_locks : Option (List ℕ) → List Want
 sweep_locks None = []
 sweep_locks (Some table) = sweep_lock table ∷ []
 
+-- what locks are judged by: the locks that statements want, the number of sessions beside the background worker, and
+-- the events so far, newest first
+pub record LockState : Type 0 where
+  pub wants : Wants
+  pub sessions : ℕ
+  pub events : List Event
+
+abbrev pub lock_state : History → LockState
+lock_state history =
+    record { wants = wants_of history.world; sessions = session_count history.world; events = history.events }
+
 -- the locks that a session holds: those of the statements that its open transaction opened, and its vacuum's
-abbrev pub held : Wants → List Event → ℕ → List Want
-held wants events session =
-    flat_map (wants session) (opened_statements session events) ++ sweep_locks (swept_by session events)
+abbrev pub held_locks : LockState → ℕ → List Want
+held_locks state session =
+    flat_map (state.wants session) (opened_statements session state.events) ++ sweep_locks (swept_by session state.events)
 
 -- a session holds a lock that stands in the way of one of these
-abbrev pub blocks : Wants → List Event → List Want → ℕ → Bool
-blocks wants events asked session =
-    list_any (λ lock. list_any (stands_in_way lock) asked) (held wants events session)
+abbrev pub has_conflict : LockState → List Want → ℕ → Bool
+has_conflict state asked session =
+    list_any (λ lock. list_any (stands_in_way lock) asked) (held_locks state session)
 
--- the other sessions that hold locks in the way of these, among so many and the background worker, in ascending order
-abbrev pub blockers : Wants → ℕ → List Event → ℕ → List Want → List ℕ
-blockers wants sessions events session asked =
-    filter (λ other. not (other == session) && blocks wants events asked other) (range_with_len 0 (suc sessions))
+-- the other sessions that hold locks in the way of these, among all and the background worker, in ascending order
+abbrev pub blockers : LockState → ℕ → List Want → List ℕ
+blockers state session asked =
+    filter (λ other. not (other == session) && has_conflict state asked other) (range_with_len 0 (suc state.sessions))
 
 -- for whom a session waits, by its newest event
-abbrev pub waits_by : Wants → ℕ → List Event → ℕ → Option Event → List ℕ
-waits_by wants sessions events session (Some (Wait other statement holders)) =
-    blockers wants sessions events session (wants session statement)
-waits_by wants sessions events session event = []
+abbrev pub waits_by : LockState → ℕ → Option Event → List ℕ
+waits_by state session (Some (Wait other statement holders)) = blockers state session (state.wants session statement)
+waits_by state session event = []
 
 -- for whom a session waits: where its newest event is a wait, for those that block it now
-abbrev pub waits_for : Wants → ℕ → List Event → ℕ → List ℕ
-waits_for wants sessions events session = waits_by wants sessions events session (last_of session events)
+abbrev pub waits_for : LockState → ℕ → List ℕ
+waits_for state session = waits_by state session (newest_event session state.events)
 
 -- for whom each session would wait, if this one asked for these locks
-abbrev pub would_wait_for : Wants → ℕ → List Event → ℕ → List Want → ℕ → List ℕ
-would_wait_for wants sessions events session asked other =
-    if other == session then blockers wants sessions events session asked else waits_for wants sessions events other
+abbrev pub would_wait_for : LockState → ℕ → List Want → ℕ → List ℕ
+would_wait_for state session asked other =
+    if other == session then blockers state session asked else waits_for state other
 
 -- the walks of so many steps from one session to the next that it waits for, in ascending order
 abbrev pub walks : (ℕ → List ℕ) → ℕ → ℕ → List (List ℕ)
@@ -111,6 +123,6 @@ first_cycle next session (steps ∷ more) =
 
 -- The cycle that a session would close by asking for these locks: different sessions, of which it is the first. Each
 -- waits for the next and the last for the first. It is the shortest one, and of the shortest the least.
-abbrev pub cycle : Wants → ℕ → List Event → ℕ → List Want → Option (List ℕ)
-cycle wants sessions events session asked =
-    first_cycle (would_wait_for wants sessions events session asked) session (range_with_len 0 (suc sessions))
+abbrev pub deadlock_cycle : LockState → ℕ → List Want → Option (List ℕ)
+deadlock_cycle state session asked =
+    first_cycle (would_wait_for state session asked) session (range_with_len 0 (suc state.sessions))

@@ -1,13 +1,16 @@
--- Transactions: what a session does between its first opened statement and its commit.
-use Rattle.std.specs.Prelude.{ℕ, min, if◌then◌else◌, List, [], ◌∷◌, map, flat_map, reverse, length, Option, Some, None, option_map, unwrap_or}
+-- Transactions: what a session does between its first opened statement and its commit, and what that reads and writes.
+use Rattle.std.specs.Prelude.{ℕ, min, if◌then◌else◌, List, [], ◌∷◌, map, reverse, length, Option, Some, None, option_map, unwrap_or}
 use Rattle.std.specs.List.{filter_map, fold, range_with_len}
 use Rattle.dw_model.specs.declared.answers.Answer.{Answer as Reply}
 use Rattle.dw_model.specs.declared.statements.Statement.{Statement}
-use Rattle.dw_model.specs.declared.tables.Object.{Object}
-use Rattle.dw_model.specs.Objects.{reads_of, writes_of}
+use Rattle.dw_model.specs.declared.objects.Object.{Object}
+use Rattle.dw_model.specs.Objects.{reads_of, writes_of, with_objects}
 use Rattle.dw_journal.specs.declared.Event.{Event}
 use Rattle.dw_journal.specs.declared.Event.TheVariants.{Begin, Pass, Wait, Opened, Answer, Commit, Violation, Refuse, Rollback, VacuumBegin, VacuumSlice, VacuumEnd, Refresh, End}
-use Rattle.dw_journal.specs.History.{Scripts, statement_at, is_of}
+use Rattle.dw_journal.specs.declared.Taken.{Taken}
+use Rattle.dw_journal.specs.declared.World.{World}
+use Rattle.dw_journal.specs.Worlds.{statement_at}
+use Rattle.dw_journal.specs.History.{History, is_of}
 
 -- a transaction: the number of commits that it sees, and its answered statements with their answers, the latest first
 pub record Transaction : Type 0 where
@@ -79,21 +82,31 @@ abbrev pub snapshot_of : ℕ → List Event → Option ℕ
 snapshot_of session events = snapshot_in (transaction_of session events)
 
 -- a committed transaction; its stamp is its place among the commits, from 1
-pub record Committed : Type 0 where
+pub record CommittedTransaction : Type 0 where
   pub session : ℕ
   pub stamp : ℕ
   pub low : ℕ
   pub snapshot : ℕ
+  -- the statements that were opened in it, the latest first, and the answered ones with their answers
+  pub opened : List ℕ
   pub answered : List (ℕ × Reply)
 
 -- the session's transaction as it is committed; none is there in no legal journal
-abbrev pub committed_as : ℕ → ℕ → ℕ → Option Transaction → Committed
-committed_as session stamp low None = record { session = session; stamp = stamp; low = low; snapshot = 0; answered = [] }
-committed_as session stamp low (Some transaction) =
-    record { session = session; stamp = stamp; low = low; snapshot = transaction.snapshot; answered = transaction.answered }
+abbrev pub committed_as : ℕ → ℕ → ℕ → List ℕ → Option Transaction → CommittedTransaction
+committed_as session stamp low opened None =
+    record { session = session; stamp = stamp; low = low; snapshot = 0; opened = opened; answered = [] }
+committed_as session stamp low opened (Some transaction) =
+    record {
+      session = session;
+      stamp = stamp;
+      low = low;
+      snapshot = transaction.snapshot;
+      opened = opened;
+      answered = transaction.answered;
+    }
 
 -- the committed transactions, newest first
-abbrev pub committed : List Event → List Committed
+abbrev pub committed : List Event → List CommittedTransaction
 committed [] = []
 committed (Begin session statement ∷ older) = committed older
 committed (Pass session statement word ∷ older) = committed older
@@ -101,7 +114,7 @@ committed (Wait session statement holders ∷ older) = committed older
 committed (Opened session statement snapshot route ∷ older) = committed older
 committed (Answer session statement answer ∷ older) = committed older
 committed (Commit session statement stamp low high ∷ older) =
-    committed_as session stamp low (transaction_of session older) ∷ committed older
+    committed_as session stamp low (opened_statements session older) (transaction_of session older) ∷ committed older
 committed (Violation session statement low high object ∷ older) = committed older
 committed (Refuse session statement refusal ∷ older) = committed older
 committed (Rollback session statement ∷ older) = committed older
@@ -138,17 +151,45 @@ statement_with None answer = None
 statement_with (Some statement) answer = Some (statement, answer)
 
 -- the answered statements of a session's transaction with their answers, in order
-abbrev pub answered_statements : Scripts → ℕ → List (ℕ × Reply) → List (Statement × Reply)
-answered_statements scripts session answered =
-    filter_map (λ pair. statement_with (statement_at scripts session pair.0) pair.1) (reverse answered)
+abbrev pub answered_statements : World → ℕ → List (ℕ × Reply) → List (Statement × Reply)
+answered_statements world session answered =
+    filter_map (λ pair. statement_with (statement_at world session pair.0) pair.1) (reverse answered)
 
 -- those statements alone
-abbrev pub statements_in : Scripts → ℕ → List (ℕ × Reply) → List Statement
-statements_in scripts session answered = map (λ pair. pair.0) (answered_statements scripts session answered)
+abbrev pub statements_in : World → ℕ → List (ℕ × Reply) → List Statement
+statements_in world session answered = map (λ pair. pair.0) (answered_statements world session answered)
 
--- the objects that statements read, and those that they write
-abbrev pub reads_in : List Statement → List Object
-reads_in statements = flat_map reads_of statements
+-- the objects that a statement has, if it is there
+abbrev pub objects_by : (Statement → List Object) → Option Statement → List Object
+objects_by objects None = []
+objects_by objects (Some statement) = objects statement
 
-abbrev pub writes_in : List Statement → List Object
-writes_in statements = flat_map writes_of statements
+-- the objects that these statements of a session's script have, each once, in ascending order
+abbrev pub objects_over : (Statement → List Object) → World → ℕ → List ℕ → List Object
+objects_over objects world session [] = []
+objects_over objects world session (statement ∷ earlier) =
+    with_objects (objects_by objects (statement_at world session statement)) (objects_over objects world session earlier)
+
+-- What a transaction of a session took that sees so many commits, and in which these statements were opened: the union
+-- of what they read, and of what they write.
+abbrev pub taken_over : World → ℕ → List ℕ → ℕ → Taken
+taken_over world session opened snapshot =
+    record {
+      snapshot = snapshot;
+      reads = objects_over reads_of world session opened;
+      writes = objects_over writes_of world session opened;
+    }
+
+-- what a session's open transaction took, the open statement's objects among it
+abbrev pub taken_of : History → ℕ → Option Taken
+taken_of history session =
+    option_map (taken_over history.world session (opened_statements session history.events)) (snapshot_of session history.events)
+
+-- the objects that a session's open transaction has written
+abbrev pub written_in : Option Taken → List Object
+written_in None = []
+written_in (Some taken) = taken.writes
+
+-- what a committed transaction took
+abbrev pub taken_by : World → CommittedTransaction → Taken
+taken_by world commit = taken_over world commit.session commit.opened commit.snapshot

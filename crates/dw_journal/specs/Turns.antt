@@ -1,5 +1,5 @@
 -- Whose turn it is to do what: what is due of a session after some events, by its script.
-use Rattle.std.specs.Prelude.{ℕ, zero, suc, ◌+◌, nat_lt, if◌then◌else◌, List, [], ◌∷◌, Option, Some, None}
+use Rattle.std.specs.Prelude.{ℕ, zero, suc, ◌+◌, nat_lt, if◌then◌else◌, List, Option, Some, None}
 use Rattle.dw_model.specs.declared.refusals.Refusal.{Refusal}
 use Rattle.dw_model.specs.declared.statements.Statement.{Statement}
 use Rattle.dw_model.specs.declared.statements.Statement.TheVariants as forms
@@ -8,8 +8,11 @@ use Rattle.dw_journal.specs.declared.Event.TheVariants.{Opened, Answer, VacuumBe
 use Rattle.dw_journal.specs.declared.Given.{Given}
 use Rattle.dw_journal.specs.declared.Given.TheVariants.{Read, Refused}
 use Rattle.dw_journal.specs.declared.Shape.{Shape}
-use Rattle.dw_journal.specs.History.{Scripts, given_at, last_of, taken}
-use Rattle.dw_journal.specs.Blocks.{Block, Outside, Within, Aborted, block_of}
+use Rattle.dw_journal.specs.Worlds.{given_at, statement_at}
+use Rattle.dw_journal.specs.History.{History, newest_event, statements_taken}
+use Rattle.dw_journal.specs.declared.BlockState.{BlockState}
+use Rattle.dw_journal.specs.declared.BlockState.TheVariants.{Outside, Within, Aborted}
+use Rattle.dw_journal.specs.Blocks.{block_of}
 use Rattle.dw_journal.specs.Vacuums.{slices_in}
 
 -- what a statement of a script calls for
@@ -65,23 +68,23 @@ taking statement None = AtEnd
 taking statement (Some given) = Taking statement (call_of given)
 
 -- where nothing is under way, the next statement is taken; the background worker has none
-abbrev pub next_turn : Scripts → ℕ → List Event → Turn
-next_turn scripts zero events = Idle
-next_turn scripts (suc n) events =
-    taking (taken (suc n) events + 1) (given_at scripts (suc n) (taken (suc n) events + 1))
+abbrev pub next_turn : History → ℕ → Turn
+next_turn history zero = Idle
+next_turn history (suc n) =
+    let k = statements_taken (suc n) history.events + 1 in taking k (given_at history.world (suc n) k)
 
 -- a vacuum goes on with this slice, if there is one
 abbrev pub sweeping : Shape → ℕ → ℕ → Turn
 sweeping shape statement slice = if nat_lt slice (slices_in shape) then SliceOf statement slice else SweepEndOf statement
 
 -- an answered statement outside a block is committed; in a block the next one is taken
-abbrev pub answered_turn : Block → ℕ → Turn → Turn
+abbrev pub answered_turn : BlockState → ℕ → Turn → Turn
 answered_turn Outside statement next = CommitOf statement
 answered_turn Within statement next = next
 answered_turn Aborted statement next = next
 
 -- what is due, by the session's newest event
-abbrev pub turn_after : Shape → Block → Option Event → Turn → Turn
+abbrev pub turn_after : Shape → BlockState → Option Event → Turn → Turn
 turn_after shape block (Some (Opened session statement snapshot route)) next = AnswerOf statement
 turn_after shape block (Some (Answer session statement answer)) next = answered_turn block statement next
 turn_after shape block (Some (VacuumBegin session statement table)) next = sweeping shape statement 0
@@ -90,6 +93,25 @@ turn_after shape block (Some (End session)) next = Nothing
 turn_after shape block event next = next
 
 -- what is due of a session
-abbrev pub turn_of : Shape → Scripts → ℕ → List Event → Turn
-turn_of shape scripts session events =
-    turn_after shape (block_of scripts session events) (last_of session events) (next_turn scripts session events)
+abbrev pub turn_of : History → ℕ → Turn
+turn_of history session =
+    turn_after history.shape (block_of history session) (newest_event session history.events) (next_turn history session)
+
+-- the statement that a turn is of; 0 where it is of none
+abbrev pub number_of : Turn → ℕ
+number_of Nothing = 0
+number_of (AnswerOf k) = k
+number_of (CommitOf k) = k
+number_of (SliceOf k slice) = k
+number_of (SweepEndOf k) = k
+number_of (Taking k call) = k
+number_of AtEnd = 0
+number_of Idle = 0
+
+-- the number of the statement that is due of a session
+abbrev pub number_due : History → ℕ → ℕ
+number_due history session = number_of (turn_of history session)
+
+-- that statement, where the grammar read it
+abbrev pub statement_due : History → ℕ → Option Statement
+statement_due history session = statement_at history.world session (number_due history session)

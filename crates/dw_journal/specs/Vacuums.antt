@@ -1,10 +1,11 @@
 -- Vacuums: which of them run, and which slice is next.
-use Rattle.std.specs.Prelude.{ℕ, suc, ◌+◌, ◌*◌, if◌then◌else◌, List, [], ◌∷◌, Option, Some, None, is_some, option_map}
+use Rattle.std.specs.Prelude.{ℕ, suc, ◌*◌, if◌then◌else◌, List, [], ◌∷◌, Option, Some, None, is_some}
 use Rattle.std.specs.List.{find, range_with_len}
 use Rattle.dw_journal.specs.declared.Event.{Event}
 use Rattle.dw_journal.specs.declared.Event.TheVariants.{VacuumBegin, VacuumEnd}
 use Rattle.dw_journal.specs.declared.Shape.{Shape}
-use Rattle.dw_journal.specs.History.{is_of}
+use Rattle.dw_journal.specs.Worlds.{session_count}
+use Rattle.dw_journal.specs.History.{History, is_of}
 
 -- the slices of a warehouse are numbered from 0
 abbrev pub slices_in : Shape → ℕ
@@ -19,8 +20,10 @@ swept_after event before = before
 -- the table that a session's vacuum sweeps, from the vacuum's begin to its end
 abbrev pub swept_by : ℕ → List Event → Option (List ℕ)
 swept_by session [] = None
-swept_by session (event ∷ older) = if is_of session event then swept_after event (swept_by session older) else swept_by session older
+swept_by session (event ∷ older) =
+    if is_of session event then swept_after event (swept_by session older) else swept_by session older
 
--- the session whose vacuum runs, among so many and the background worker; the least one
-abbrev pub sweeper : ℕ → List Event → Option ℕ
-sweeper sessions events = find (λ session. is_some (swept_by session events)) (range_with_len 0 (suc sessions))
+-- the session whose vacuum runs, among those with a script and the background worker, which is session 0; the least one
+abbrev pub sweeper : History → Option ℕ
+sweeper history =
+    find (λ session. is_some (swept_by session history.events)) (range_with_len 0 (suc (session_count history.world)))

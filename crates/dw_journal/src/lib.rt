@@ -6,17 +6,21 @@
 
 mod laws;
 mod locks;
+mod sessions;
 mod transactions;
 
 ghost use Rattle.std.specs.Prelude.{◌≡◌};
+ghost use Rattle.dw_journal.specs.Shapes.{standard_shape};
 
-use dw_model::{Answer, Object, Refusal, Statement, Word};
+use dw_model::{Answer, FileMap, Object, Refusal, Statement, Word};
 use dw_value::{List, Text};
 pub use laws::{
-    contents_stand, driven_is_legal, edges_rise, one_driven_journal, transactions_have_a_frame,
-    worked_examples,
+    commits_leave_objects, contents_stand, driven_is_legal, edges_rise,
+    events_bring_nearer_the_end, one_driven_journal, serial_order_is_in_order,
+    transactions_have_a_frame, violations_are_exact, watermarks_are_attained, worked_examples,
 };
 pub use locks::{Mode, Want};
+pub use sessions::place_of;
 pub use transactions::{commits, horizon, snapshot_of};
 
 /// How large a warehouse is, and how many sessions it serves.
@@ -37,7 +41,7 @@ pub struct Shape {
 impl Shape {
     /// The shape of a warehouse where nothing else is asked for: 2 nodes of 2 slices, 1 cluster, 5 slots.
     pub fn standard(sessions: u32) -> Shape
-        ensures { result ≡ record { nodes = 2; slices = 2; clusters = 1; slots = 5; sessions = sessions } }
+        ensures { result ≡ standard_shape sessions }
     {
         Shape {
             nodes: 2,
@@ -61,6 +65,26 @@ pub enum Given {
 /// The statements of each session's script, sessions in ascending number.
 pub type Scripts = List<List<Given>>;
 
+/// What a journal is read beside: the scripts, and the files that were handed in.
+#[derive(Debug, Drop)]
+pub struct World {
+    /// The statements of each session's script: session 1 first.
+    pub scripts: Scripts,
+    /// The bytes of each file under its name. A name that isn't there is of no file.
+    pub files: FileMap,
+}
+
+/// Where a session stands, after the SQL standard's transactions.
+#[derive(Clone, Copy, Debug, PartialEq, Eq)]
+pub enum BlockState {
+    /// In no block: each statement is a transaction of its own.
+    Outside,
+    /// In a block, whose statements are one transaction.
+    Within,
+    /// In a block of which a statement was refused, so that it can only be rolled back.
+    Aborted,
+}
+
 /// Where a statement is worked on.
 #[derive(Clone, Copy, Debug)]
 pub enum Route {
@@ -70,8 +94,10 @@ pub enum Route {
     Cluster(u32),
 }
 
-/// One event of a journal. Sessions, statements and clusters are numbered from 1, slices from 0. Stamps are the places of
-/// committed transactions, from 1. Session 0 is the background worker, whose statement is 0.
+/// One event of a journal. In each, `session` is a session's number, from 1, or 0 for the background worker; `statement`
+/// is the place in that session's script, from 1, or 0 for the background worker. Clusters are numbered from 1, slices
+/// from 0. `stamp` is the place of a committed transaction among all, from 1. `snapshot` and `horizon` are numbers of
+/// commits, from 0. `low` is a stamp, and `high` is a stamp or 0.
 #[derive(Debug, Drop)]
 pub enum Event {
     /// BEGIN: a block of statements begins.
@@ -113,8 +139,8 @@ pub enum Event {
         low: u64,
         high: u64,
     },
-    /// The session's transaction can't be committed, since its low watermark is at most its high one. `object` is one that
-    /// it read and that a transaction of that low watermark wrote behind its snapshot: the least one.
+    /// The session's transaction can't be committed, since its low watermark is at most its high one. `object` is one
+    /// that it read and that a transaction of that low watermark wrote after its snapshot: the least one.
     Violation {
         session: u32,
         statement: u32,
@@ -188,20 +214,31 @@ impl Event {
     }
 }
 
+/// What a transaction took: the commits that it sees, and the objects that it read and wrote.
+#[derive(Debug, Drop)]
+pub struct Taken {
+    /// The number of commits that it sees.
+    pub snapshot: u64,
+    /// The objects that it read, each once, in ascending order.
+    pub reads: List<Object>,
+    /// The objects that it wrote, each once, in ascending order.
+    pub writes: List<Object>,
+}
+
 /// A committed transaction as the watermarks of later ones see it.
 #[derive(Debug, Drop)]
 pub struct Certified {
-    /// Its low watermark.
+    /// Its low watermark, from 1.
     pub low: u64,
-    /// The objects that it read.
-    pub reads: List<Object>,
-    /// The objects that it wrote.
-    pub writes: List<Object>,
+    /// What it took.
+    pub taken: Taken,
 }
 
 /// What happened in a warehouse of this shape, the oldest event first.
 #[derive(Debug, Drop)]
 pub struct Journal {
+    /// The warehouse's shape.
     pub shape: Shape,
+    /// Its events, the oldest first.
     pub events: List<Event>,
 }

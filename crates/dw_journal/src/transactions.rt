@@ -1,7 +1,7 @@
 //! Numbers of a journal: its commits, snapshots, horizon. They take no memory.
 ghost use Rattle.std.specs.Prelude.{◌≡◌, ◌+◌, ◌^◌, ◌<◌, ◌≤◌, [], ◌∷◌, List as Items, Option as Optional};
 ghost use Rattle.std.specs.List.{fold, cons_option};
-ghost use Rattle.dw_journal.specs.History.{history};
+ghost use Rattle.dw_journal.specs.History.{events_of};
 ghost use Rattle.dw_journal.specs.Transactions.{Transaction, commits, horizon, least_with, snapshot_of, snapshot_in, transaction_after};
 ghost use Rattle.dw_journal.specs.declared.Event.{Event as Happened};
 
@@ -9,7 +9,7 @@ use crate::{Event, Journal};
 
 /// How many transactions were committed. It takes no memory.
 pub fn commits(journal: &Journal) -> u64
-    ensures { result ≡ commits (history journal.now) }
+    ensures { result ≡ commits (events_of journal.now) }
 {
     let mut count = 0;
     for event in journal.events.as_slice() {
@@ -45,7 +45,7 @@ fn count_after(event: &Event, before: u64) -> u64
 /// The snapshot of a session's open transaction: the number of commits that it sees. `None` comes exactly where no
 /// transaction of the session is open. It takes no memory.
 pub fn snapshot_of(journal: &Journal, session: u32) -> Option<u64>
-    ensures { result ≡ snapshot_of session (history journal.now) }
+    ensures { result ≡ snapshot_of session (events_of journal.now) }
 {
     let mut snapshot = None;
     for event in journal.events.as_slice() {
@@ -79,9 +79,10 @@ fn snapshot_after(event: &Event, before: Option<u64>) -> Option<u64>
     }
 }
 
-/// The horizon: the least snapshot of an open transaction, or the number of commits where none is open. It takes no memory.
+/// The horizon: the least snapshot of an open transaction, or the number of commits where none is open. It takes no
+/// memory.
 pub fn horizon(journal: &Journal) -> u64
-    ensures { result ≡ horizon journal.now.shape.sessions (history journal.now) }
+    ensures { result ≡ horizon journal.now.shape.sessions (events_of journal.now) }
 {
     let mut least = None;
     for before in 0..journal.shape.sessions {
@@ -110,8 +111,8 @@ mod tests {
     use std::alloc::Global;
     use std::test::Fail;
 
-    /// An event of a session: a block's begin, an opening at this snapshot, an answer, a commit of this stamp, a violation,
-    /// a rollback, a refresh, an end.
+    /// An event of a session: a block's begin, an opening at this snapshot, an answer, a commit of this stamp, a
+    /// violation, a rollback, a refresh, an end.
     fn event(alloc: Global, letter: char, session: u32, number: u64) -> Event {
         let statement = 1;
         match letter {
