@@ -4,8 +4,8 @@ use Rattle.std.specs.Prelude.{ℕ, ◌+◌, List, [], ◌∷◌, ◌++◌, codes
 use Rattle.dw_model.specs.declared.refusals.Refusal.{Refusal}
 use Rattle.dw_model.specs.Refusals.{number_of}
 use Rattle.dw_model.specs.declared.answers.Answer.{Answer as Reply}
-use Rattle.dw_model.specs.declared.tables.Object.{Object}
-use Rattle.dw_model.specs.declared.tables.Object.TheVariants.{Def, Rows}
+use Rattle.dw_model.specs.declared.objects.Object.{Object}
+use Rattle.dw_model.specs.declared.objects.Object.TheVariants.{Def, Rows}
 use Rattle.dw_model.specs.declared.answers.Word.{Word}
 use Rattle.dw_journal.specs.declared.Route.{Route}
 use Rattle.dw_journal.specs.declared.Route.TheVariants.{Main, Cluster}

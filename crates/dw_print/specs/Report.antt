@@ -8,7 +8,8 @@ use Rattle.std.specs.Prelude.{ℕ, List, ◌++◌, map, codes, decimal}
 use Rattle.dw_model.specs.Databases.{Tables}
 use Rattle.dw_journal.specs.declared.Shape.{Shape}
 use Rattle.dw_journal.specs.declared.Journal.{Journal}
-use Rattle.dw_journal.specs.History.{Scripts, history}
+use Rattle.dw_journal.specs.declared.World.{World}
+use Rattle.dw_journal.specs.History.{history_of}
 use Rattle.dw_journal.specs.Contents.{contents}
 use Rattle.dw_journal.specs.Serial.{serial_order}
 use Rattle.dw_print.specs.Fields.{numbers_text}
@@ -36,6 +37,6 @@ report_of journal tables stamps =
 
 -- The report of a journal beside its scripts: its shape, its events, the committed tables after the last event, and the
 -- stamps of the committed transactions in serial order.
-abbrev pub report : Scripts → Journal → List ℕ
-report scripts journal =
-    report_of journal (contents scripts (history journal)) (map (λ transaction. transaction.stamp) (serial_order journal))
+abbrev pub report : World → Journal → List ℕ
+report world journal =
+    report_of journal (contents (history_of world journal)) (map (λ transaction. transaction.stamp) (serial_order journal))

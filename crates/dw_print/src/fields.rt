@@ -1,4 +1,4 @@
-//! The parts of a line: texts, numbers, names, values and refusals, each written behind what is there already.
+//! The parts of a line: texts, numbers, names, values and refusals, each written after what is there already.
 ghost use Rattle.std.specs.Prelude.{◌≡◌, ◌++◌, OnOk};
 ghost use Rattle.dw_print.specs.Fields.{escape, field, numbers_text, refusal_text, shown_field, value_field};
 

@@ -24,7 +24,7 @@ fn write_entries(out: &mut Vec<u8>, entries: &[Entry]) -> Result<(), AllocError>
     ensures { OnOk result (out.new.items ≡ out.old.items ++ flat_map named_lines (pairs_of entries.now)) }
 {
     for entry in entries {
-        write_table(out, &entry.name, &entry.table)?;
+        write_table(out, &*entry.name, &*entry.table)?;
     }
     Ok(())
 }

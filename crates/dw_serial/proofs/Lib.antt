@@ -1,8 +1,9 @@
 pub mod Sequence
+pub mod LegalTransactions
+pub mod StatementLemmas
+pub mod RunAlone
 pub mod Replay
-pub mod Sound
-pub mod Installed
-pub mod Known
-pub mod Left
+pub mod CommittedEdges
+pub mod Effects
 pub mod Theorem
-pub mod Placing
+pub mod SortedKeys

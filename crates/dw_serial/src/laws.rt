@@ -1,6 +1,9 @@
-//! The serial theorem.
+//! The serial theorem, and a commit as its changes.
 ghost use Rattle.dw_journal.specs.declared.Journal.{Journal as Events};
-ghost use Rattle.dw_journal.specs.History.{Scripts};
+ghost use Rattle.dw_journal.specs.declared.World.{World};
+ghost use Rattle.dw_model.specs.Databases.{Tables};
+ghost use Rattle.dw_journal.specs.Transactions.{CommittedTransaction};
+ghost use Rattle.dw_serial.specs.Applied.{CommitAppliesChanges};
 ghost use Rattle.dw_journal.specs.Legal.{IsLegal};
 ghost use Rattle.dw_journal.specs.Serial.{IsSerial};
 
@@ -9,5 +12,12 @@ ghost use Rattle.dw_journal.specs.Serial.{IsSerial};
 /// every list of scripts and every journal, whatever number of sessions, of clusters and of vacuums stand in it. After the
 /// Serial Safety Net paper of Wang, Johnson, Fekete and Pandis.
 pub fn legal_is_serial()
-    ensures { (scripts : Scripts) (journal : Events) → IsLegal scripts journal → IsSerial scripts journal }
+    ensures { (world : World) (journal : Events) → IsLegal world journal → IsSerial world journal }
+{}
+
+/// What a commit leaves, by cases of what its transaction read and wrote, is the committed database with the transaction's
+/// changes applied one after another, object by object, where that database has the same of all that the transaction read as
+/// the one at its snapshot.
+pub fn commits_apply_changes()
+    ensures { (world : World) (commit : CommittedTransaction) (start before : Tables) → CommitAppliesChanges world commit start before }
 {}

@@ -4,5 +4,5 @@
 mod laws;
 mod order;
 
-pub use laws::legal_is_serial;
+pub use laws::{commits_apply_changes, legal_is_serial};
 pub use order::serial_order;
