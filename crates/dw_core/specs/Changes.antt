@@ -1,42 +1,101 @@
--- How an event changes what is kept of its session.
-use Rattle.std.specs.Prelude.{◌&&◌, if◌then◌else◌, ℕ, List, [], ◌++◌, Option, Some, None}
-use Rattle.dw_model.specs.declared.refusals.Refusal.{Refusal}
+-- How an event of a session changes what is kept of it.
+use Rattle.std.specs.Prelude.{◌≡◌, ℕ, Bool, true, false, if◌then◌else◌, [], Option, Some, None}
 use Rattle.dw_model.specs.declared.statements.Statement.{Statement}
-use Rattle.dw_model.specs.declared.tables.Object.{Object}
-use Rattle.dw_model.specs.Objects.{reads_of, writes_of}
-use Rattle.dw_journal.specs.Blocks.{Block, Outside, refused_in, is_memory, is_commit}
-use Rattle.dw_core.specs.declared.sessions.Block.{Block as Standing}
-use Rattle.dw_core.specs.declared.sessions.Block.TheVariants as standing
+use Rattle.dw_model.specs.Objects.{reads_of, writes_of, with_objects, IsAscendingObjects}
+use Rattle.dw_journal.specs.declared.BlockState.{BlockState}
+use Rattle.dw_journal.specs.declared.BlockState.TheVariants.{Outside, Within, Aborted}
+use Rattle.dw_journal.specs.declared.Event.{Event}
+use Rattle.dw_journal.specs.declared.Event.TheVariants.{Begin, Pass, Opened, Answer, Commit, Violation, Refuse, Rollback, End}
+use Rattle.dw_journal.specs.declared.World.{World}
+use Rattle.dw_journal.specs.History.{History, statements_after}
+use Rattle.dw_journal.specs.Blocks.{block_after}
+use Rattle.dw_journal.specs.Transactions.{objects_by}
+use Rattle.dw_journal.specs.Turns.{AnswerOf, number_due, turn_of}
+use Rattle.dw_core.specs.declared.sessions.Session.{Session}
 use Rattle.dw_core.specs.declared.sessions.Stage.{Stage}
-use Rattle.dw_core.specs.declared.sessions.Stage.TheVariants.{Between, Answered}
-use Rattle.dw_core.specs.declared.sessions.Transaction.{Transaction}
-
--- where a session stands once this statement is refused
-abbrev pub block_refused : Option Statement → Refusal → Block → Block
-block_refused statement refusal before = if is_memory refusal && is_commit statement then Outside else refused_in before
+use Rattle.dw_core.specs.declared.sessions.Stage.TheVariants as stages
+use Rattle.dw_core.specs.declared.transactions.Footprint.{Footprint}
+use Rattle.dw_core.specs.declared.transactions.Transaction.{Transaction}
 
 -- an answered statement outside a block is to be committed
-abbrev pub stage_answered : Standing → Stage
-stage_answered standing.Outside = Answered
-stage_answered standing.Within = Between
-stage_answered standing.Aborted = Between
+abbrev pub answered_stage : BlockState → Stage
+answered_stage Outside = stages.Answered
+answered_stage Within = stages.Between
+answered_stage Aborted = stages.Between
 
--- the objects that a statement reads or writes, if it is there
-abbrev pub objects_by : (Statement → List Object) → Option Statement → List Object
-objects_by objects None = []
-objects_by objects (Some statement) = objects statement
+-- how far a session has come with its statement once it has this event, and then stands in this block
+abbrev pub stage_after : Event → BlockState → Stage
+stage_after (Opened session statement snapshot route) block = stages.Opened
+stage_after (Answer session statement answer) block = answered_stage block
+stage_after (End session) block = stages.Ended
+stage_after event block = stages.Between
 
--- what a transaction keeps that begins with this statement
-abbrev pub opening : Option Statement → ℕ → Transaction
-opening statement snapshot =
-    record { taken = record { snapshot = snapshot; reads = objects_by reads_of statement; writes = objects_by writes_of statement }; named = objects_by reads_of statement }
+-- whether the session's transaction ends with this event
+abbrev pub ends_transaction : Event → Bool
+ends_transaction (Commit session statement stamp low high) = true
+ends_transaction (Violation session statement low high object) = true
+ends_transaction (Refuse session statement refusal) = true
+ends_transaction (Rollback session statement) = true
+ends_transaction (End session) = true
+ends_transaction event = false
 
--- the transaction with the objects of the next one, too
-abbrev pub extended : Transaction → Transaction → Transaction
-extended next transaction =
-    record { taken = record { snapshot = transaction.taken.snapshot; reads = transaction.taken.reads ++ next.taken.reads; writes = transaction.taken.writes ++ next.taken.writes }; named = transaction.named ++ next.named }
+-- what is kept of a session once it has this event; what an opened statement takes is kept before
+abbrev pub session_after : World → Event → Session → Session
+session_after world event kept = record {
+  taken = statements_after event kept.taken;
+  stage = stage_after event (block_after world event kept.block);
+  block = block_after world event kept.block;
+  transaction = if ends_transaction event then None else kept.transaction;
+}
 
--- what is kept once a statement is opened
-abbrev pub opened_by : Transaction → Option Transaction → Transaction
-opened_by next None = next
-opened_by next (Some transaction) = extended next transaction
+-- what a statement takes, if it is there
+abbrev pub footprint_of : Option Statement → Footprint
+footprint_of statement =
+    record {
+      reads = objects_by reads_of statement;
+      writes = objects_by writes_of statement;
+      named = objects_by reads_of statement;
+    }
+
+-- a transaction that takes these objects, too
+abbrev pub wider_transaction : Footprint → Transaction → Transaction
+wider_transaction more kept = record {
+  taken = record {
+    snapshot = kept.taken.snapshot;
+    reads = with_objects more.reads kept.taken.reads;
+    writes = with_objects more.writes kept.taken.writes;
+  };
+  named = with_objects more.named kept.named;
+}
+
+-- what is kept once a statement is opened that takes these objects, and that begins a transaction of this snapshot
+-- where none is open
+abbrev pub opened_transaction : Footprint → ℕ → Option Transaction → Transaction
+opened_transaction more snapshot None =
+    wider_transaction more (record { taken = record { snapshot = snapshot; reads = []; writes = [] }; named = [] })
+opened_transaction more snapshot (Some kept) = wider_transaction more kept
+
+-- the sets of a transaction ascend
+pub record AreSets (kept : Transaction) : Type 0 where
+  pub reads : IsAscendingObjects kept.taken.reads
+  pub writes : IsAscendingObjects kept.taken.writes
+  pub named : IsAscendingObjects kept.named
+
+-- An event of this session that opens nothing and decides on no commit. It leaves the locks, the vacuums and the
+-- clusters as they are, but that its session may hold no lock any more.
+abbrev pub IsPlain : ℕ → Event → Type 0
+IsPlain session (Begin other statement) = other ≡ session
+IsPlain session (Pass other statement word) = other ≡ session
+IsPlain session (Answer other statement answer) = other ≡ session
+IsPlain session (Refuse other statement refusal) = other ≡ session
+IsPlain session (Rollback other statement) = other ≡ session
+IsPlain session (End other) = other ≡ session
+IsPlain session event = ⊥
+
+-- Room is kept for the answer or the refusal of an open statement, and for the end of a block.
+abbrev pub HasRoomKept : History → ℕ → Event → Type 0
+HasRoomKept history session (Answer other statement answer) = Unit {0}
+HasRoomKept history session (Refuse other statement refusal) =
+    turn_of history session ≡ AnswerOf (number_due history session)
+HasRoomKept history session (Rollback other statement) = Unit {0}
+HasRoomKept history session event = ⊥

@@ -1,5 +1,6 @@
-pub mod Machine
+pub mod DueEvents
 pub mod Readers
-pub mod Changes
+pub mod Traces
 pub mod Decisions
-pub mod Agree
+pub mod Changes
+pub mod CoreInvariant

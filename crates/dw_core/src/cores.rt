@@ -1,27 +1,32 @@
-ghost use Rattle.std.specs.Prelude.{◌≡◌, ◌≢◌, ◌+◌, ◌*◌, ◌^◌, ◌<◌, ◌≤◌, [], ◌∷◌, ◌++◌, ℕ, List as Items, Some, None, length, reverse, slice_get, vec_len, vec_capacity, OnOk, OnErr, OnSome, IfOk};
+//! The core: which event may come next of each session, and the calls that append it.
+ghost use Rattle.std.specs.Prelude.{◌≡◌, ◌+◌, ◌*◌, ◌<◌, ◌≤◌, [], ◌∷◌, ℕ, List as Items, None, Some, vec_len, vec_capacity, OnOk, OnErr, IfOk, IfSome};
 ghost use Rattle.std.specs.Option.{option_copied};
 ghost use Rattle.dw_journal.specs.declared.Event.TheVariants as event;
 ghost use Rattle.dw_journal.specs.declared.locks.Want.{Want};
-ghost use Rattle.dw_journal.specs.History.{IsSession, script_of, given_at, history};
+ghost use Rattle.dw_journal.specs.Worlds.{AreShort, IsSession, given_at, session_count};
+ghost use Rattle.dw_journal.specs.History.{events_of, session_of, with_event};
 ghost use Rattle.dw_journal.specs.Blocks.{block_of};
-ghost use Rattle.dw_journal.specs.Locks.{blockers, wants_of};
-ghost use Rattle.dw_journal.specs.Turns.{AnswerOf};
+ghost use Rattle.dw_journal.specs.Transactions.{commits, taken_of};
+ghost use Rattle.dw_journal.specs.Vacuums.{swept_by};
+ghost use Rattle.dw_journal.specs.Locks.{blockers, lock_state};
+ghost use Rattle.dw_journal.specs.Turns.{AnswerOf, number_due, turn_of};
 ghost use Rattle.dw_journal.specs.Follows.{FollowsAfter};
-ghost use Rattle.dw_journal.specs.Legal.{IsLegal};
-ghost use Rattle.dw_core.specs.Machine.{with_event, turn_in, number_due, snapshot_next, route_next, opening_in, low_in, high_in, commit_in, Comes, LeavesNoTrace};
-ghost use Rattle.dw_core.specs.Readers.{AreShort, MeansTurn, MeansTransaction, IsSettled, block_meant, decision_of, LeavesUnlessStamped};
+ghost use Rattle.dw_journal.specs.Legal.{IsLegal, IsNextEvent, high_of, low_of, snapshot_due};
+ghost use Rattle.dw_core.specs.Changes.{HasRoomKept, IsPlain};
+ghost use Rattle.dw_core.specs.CoreInvariant.{IsKept};
+ghost use Rattle.dw_core.specs.DueEvents.{commit_due, decision_of, opening_due, route_due};
+ghost use Rattle.dw_core.specs.Readers.{MeansTurn};
+ghost use Rattle.dw_core.specs.Traces.{LeavesNoTrace, LeavesUnlessStamped};
 
 use crate::decisions::{Committed, decide};
-use crate::sessions::{
-    Block, Session, Stage, block_passed, given, open, opening, place_of, script, stage_answered,
-};
-use dw_journal::{Event, Given, Journal, Route, Shape};
-use dw_model::{Answer, Refusal, Word};
+use crate::sessions::{Session, Stage, given, put};
+use crate::transactions::open;
+use dw_journal::{BlockState, Event, Given, Journal, Route, Shape, World, place_of};
+use dw_model::{Answer, FileMap, Refusal, Word};
 use dw_ssn::{Certifier, Marks, Taken};
 use dw_value::List;
 use std::alloc::{AllocError, Global};
 use std::marker::Model;
-use std::mem;
 
 /// What is due of a session.
 #[derive(Clone, Copy, Debug, PartialEq, Eq)]
@@ -38,123 +43,145 @@ pub enum Next {
     End,
 }
 
-/// A warehouse in the making: the scripts of its sessions, and the journal of what they have done so far. Contracts see the
-/// scripts, the shape and the events, newest first. Sessions are numbered from 1.
+/// A warehouse in the making: the scripts of its sessions, and the journal of what they have done so far. Contracts see
+/// its history: the shape, the world, and the events, newest first. Sessions are numbered from 1.
 #[derive(Debug, Drop)]
 pub struct Core {
     shape: Shape,
-    scripts: List<List<Given>>,
+    world: World,
     events: Vec<Event>,
     sessions: Vec<Session>,
     certifier: Certifier,
 }
 
 impl Model for Core {
+    ghost use Rattle.std.specs.Coded.{codes};
     ghost use Rattle.std.specs.Prelude.{reverse, vec_len, vec_capacity};
-    ghost use Rattle.dw_core.specs.Machine.{Machine};
+    ghost use Rattle.dw_model.specs.contracts.files.FileMap as files;
+    ghost use Rattle.dw_journal.specs.History.{History};
 
-    ghost Value = { Machine };
+    ghost Value = { History };
 
-    ghost use Rattle.dw_core.specs.Agree.{Agree};
+    ghost coded = { Prim.hlevel (codes, files.the_row.coded) };
 
-    ghost view = { λ core. record { shape = core.shape; scripts = core.scripts; events = reverse core.events.items } };
+    ghost use Rattle.dw_core.specs.CoreInvariant.{CoreInvariant};
 
-    ghost invariant = { λ core. Agree core.shape core.scripts (reverse core.events.items) core.sessions.items core.certifier.commits (vec_len core.events) (vec_capacity core.events) };
+    ghost view = { λ core. record { shape = core.shape; world = core.world; events = reverse core.events.items } };
+
+    ghost invariant = { λ core. CoreInvariant
+        (record { shape = core.shape; world = core.world; events = reverse core.events.items })
+        core.sessions.items core.certifier (vec_len core.events) (vec_capacity core.events) };
 }
 
 impl Core {
-    /// A warehouse in which nothing has happened yet, with a session for each script. It gives an error where there is no
-    /// memory for it.
-    pub fn new(alloc: Global, shape: Shape, scripts: List<List<Given>>) -> Result<Core, AllocError>
-        requires sessions { shape.sessions ≡ length scripts }
-        requires short { AreShort scripts }
-        ensures { IfOk result (λ core. core ≡ record { shape = shape; scripts = scripts; events = [] }) }
+    /// A warehouse in which nothing has happened yet, with a session for each script. It gives an error where there is
+    /// no memory for it.
+    pub fn new(alloc: Global, shape: Shape, world: World) -> Result<Core, AllocError>
+        requires sessions { shape.sessions ≡ session_count world }
+        requires short { AreShort world.scripts }
+        ensures { IfOk result (λ core. core ≡ record { shape = shape; world = world; events = [] }) }
     {
         let mut sessions = Vec::new(alloc);
         for _ in 0..shape.sessions {
-            sessions.push(Session::between(0, Block::Outside))?;
+            sessions.push(Session::fresh())?;
         }
         Ok(Core {
             shape,
-            scripts,
+            world,
             events: Vec::new(alloc),
             sessions,
             certifier: Certifier::new(alloc),
         })
     }
 
-    /// What is due of the session.
-    pub fn next(&self, session: u32) -> Next
-        requires session { IsSession self.now.scripts session }
-        ensures { MeansTurn self.now session result }
+    /// What is kept of the session.
+    fn kept(&self, session: u32) -> &Session
+        requires session { IsSession self.now.world session }
+        ensures kept { IsKept self.now session result.now }
+        ensures short { AreShort self.now.world.scripts }
+        ensures snapshot { IfSome (taken_of self.now session) (λ taken. taken.snapshot ≤ commits self.now.events) }
     {
-        let kept = &self.sessions[place_of(session)];
+        &self.sessions[place_of(session)]
+    }
+
+    /// What is due of the session, and the number of the statement that is due; 0 where none is.
+    fn due(&self, session: u32) -> (Next, u32)
+        requires session { IsSession self.now.world session }
+        ensures turn { MeansTurn self.now session result.0 }
+        ensures number { result.1 ≡ number_due self.now session }
+    {
+        let kept = self.kept(session);
         match kept.stage {
-            Stage::Ended => Next::Nothing,
-            Stage::Opened => Next::Answer,
-            Stage::Answered => Next::Commit,
-            Stage::Between => match script(&self.scripts, session).get(kept.taken as usize) {
-                Some(_) => Next::Take,
-                None => Next::End,
+            Stage::Ended => (Next::Nothing, 0),
+            Stage::Opened => (Next::Answer, kept.taken),
+            Stage::Answered => (Next::Commit, kept.taken),
+            Stage::Between => match given(&self.world, session, kept.taken as usize + 1) {
+                Some(_) => (Next::Take, kept.taken + 1),
+                None => (Next::End, 0),
             },
         }
+    }
+
+    /// What is due of the session.
+    pub fn next(&self, session: u32) -> Next
+        requires session { IsSession self.now.world session }
+        ensures { MeansTurn self.now session result }
+    {
+        self.due(session).0
     }
 
     /// The number of the statement that is due of the session; 0 where none is.
     fn number_due(&self, session: u32) -> u32
-        requires session { IsSession self.now.scripts session }
+        requires session { IsSession self.now.world session }
         ensures { result ≡ number_due self.now session }
     {
-        let kept = &self.sessions[place_of(session)];
-        match kept.stage {
-            Stage::Ended => 0,
-            Stage::Opened | Stage::Answered => kept.taken,
-            Stage::Between => match script(&self.scripts, session).get(kept.taken as usize) {
-                Some(_) => kept.taken + 1,
-                None => 0,
-            },
-        }
+        self.due(session).1
     }
 
-    /// The statement that is due of the session, read or refused. Where none is due, it is the first one of the script, if
-    /// there is one.
+    /// The statement that is due of the session, read or refused. There is none where no statement is due.
     pub fn given(&self, session: u32) -> Option<&Given>
-        requires session { IsSession self.now.scripts session }
-        ensures { option_copied result ≡ given_at self.now.scripts session (number_due self.now session) }
+        requires session { IsSession self.now.world session }
+        ensures { option_copied result ≡ given_at self.now.world session (number_due self.now session) }
     {
         let number = self.number_due(session);
-        given(&self.scripts, session, number)
+        given(&self.world, session, number as usize)
+    }
+
+    /// The files that the statements are read beside.
+    pub fn files(&self) -> &FileMap
+        ensures { result.now ≡ self.now.world.files }
+    {
+        &self.world.files
     }
 
     /// Where the session stands.
-    pub fn block(&self, session: u32) -> Block
-        requires session { IsSession self.now.scripts session }
-        ensures { block_meant result ≡ block_of self.now.scripts session self.now.events }
+    pub fn block(&self, session: u32) -> BlockState
+        requires session { IsSession self.now.world session }
+        ensures { result ≡ block_of self.now session }
     {
-        self.sessions[place_of(session)].block
+        self.kept(session).block
     }
 
-    /// The session's open transaction. While no statement of it is open, it has the objects that its answered statements
-    /// read and wrote.
+    /// What the session's open transaction took, the open statement's objects among it.
     pub fn transaction(&self, session: u32) -> Option<&Taken>
-        requires session { IsSession self.now.scripts session }
-        ensures { MeansTransaction self.now session (option_copied result) }
+        requires session { IsSession self.now.world session }
+        ensures taken { option_copied result ≡ taken_of self.now session }
+        ensures snapshot { IfSome (taken_of self.now session) (λ taken. taken.snapshot ≤ commits self.now.events) }
     {
-        match &self.sessions[place_of(session)].transaction {
+        match &self.kept(session).transaction {
             Some(transaction) => Some(&transaction.taken),
             None => None,
         }
     }
 
-    /// The watermarks that the session's transaction has if it commits next. It takes no memory.
+    /// The watermarks that the session's transaction has if it commits next; 0 where none is open. It takes no memory.
     pub fn marks(&self, session: u32) -> Marks
-        requires session { IsSession self.now.scripts session }
-        requires settled { IsSettled self.now session }
-        ensures low { result.low ≡ low_in self.now session }
-        ensures high { result.high ≡ high_in self.now session }
+        requires session { IsSession self.now.world session }
+        ensures low { result.low ≡ low_of self.now session }
+        ensures high { result.high ≡ high_of self.now session }
     {
-        match &self.sessions[place_of(session)].transaction {
-            Some(transaction) => self.certifier.watermarks(&transaction.taken),
+        match self.transaction(session) {
+            Some(taken) => self.certifier.watermarks(taken),
             None => Marks {
                 low: 0,
                 high: 0,
@@ -166,104 +193,122 @@ impl Core {
     /// Asks for locks. They are granted at once: no statement locks a table yet and no vacuum runs, so no other session
     /// stands in the way.
     pub fn ask(&self, session: u32)
-        requires session { IsSession self.now.scripts session }
-        ensures { (asked : Items Want) → blockers (wants_of self.now.scripts) self.now.shape.sessions self.now.events session asked ≡ [] }
+        requires session { IsSession self.now.world session }
+        ensures { (asked : Items Want) → blockers (lock_state self.now) session asked ≡ [] }
     {
         let _events = &self.events;
     }
 
+    /// The event of the session has happened. Where memory runs out, nothing has.
+    fn record(&mut self, session: u32, event: Event) -> Result<(), AllocError>
+        requires session { IsSession self.old.world session }
+        requires plain { IsPlain session event }
+        requires next { IsNextEvent self.old event }
+        ensures ok { OnOk result (self.new ≡ with_event self.old event) }
+        ensures err { OnErr result (self.new ≡ self.old) }
+        ensures unswept { (other : ℕ) → swept_by other self.new.events ≡ None }
+    {
+        make_room(&mut self.events, self.shape.sessions)?;
+        put(
+            &self.world,
+            &mut self.sessions,
+            &mut self.events,
+            session,
+            event,
+        );
+        Ok(())
+    }
+
+    /// The event of the session has happened, for which there is room. It takes no memory.
+    fn record_in_room(&mut self, session: u32, event: Event)
+        requires session { IsSession self.old.world session }
+        requires plain { IsPlain session event }
+        requires room { HasRoomKept self.old session event }
+        requires next { IsNextEvent self.old event }
+        ensures now { self.new ≡ with_event self.old event }
+        ensures unswept { (other : ℕ) → swept_by other self.new.events ≡ None }
+    {
+        put(
+            &self.world,
+            &mut self.sessions,
+            &mut self.events,
+            session,
+            event,
+        );
+    }
+
     /// The session's BEGIN begins a block. Where memory runs out, nothing has happened.
     pub fn begun(&mut self, session: u32) -> Result<(), AllocError>
-        requires session { IsSession self.old.scripts session }
-        requires comes { Comes self.old (event.Begin session (number_due self.old session)) }
+        requires session { IsSession self.old.world session }
+        requires comes { IsNextEvent self.old (event.Begin session (number_due self.old session)) }
         ensures ok { OnOk result (self.new ≡ with_event self.old (event.Begin session (number_due self.old session))) }
         ensures err { OnErr result (self.new ≡ self.old) }
     {
         let statement = self.number_due(session);
-        make_room(&mut self.events, self.shape.sessions)?;
-        let kept = &mut self.sessions[place_of(session)];
-        kept.taken = statement;
-        kept.block = Block::Within;
-        append(&mut self.events, Event::Begin { session, statement });
-        Ok(())
+        self.record(session, Event::Begin { session, statement })
     }
 
     /// The session's BEGIN, COMMIT or ROLLBACK has nothing to do. Where memory runs out, nothing has happened.
     pub fn passed(&mut self, session: u32, word: Word) -> Result<(), AllocError>
-        requires session { IsSession self.old.scripts session }
-        requires comes { Comes self.old (event.Pass session (number_due self.old session) word) }
-        ensures ok { OnOk result (self.new ≡ with_event self.old (event.Pass session (number_due self.old session) word)) }
+        requires session { IsSession self.old.world session }
+        requires comes { IsNextEvent self.old (event.Pass session (number_due self.old session) word) }
+        ensures ok { OnOk result (self.new
+            ≡ with_event self.old (event.Pass session (number_due self.old session) word)) }
         ensures err { OnErr result (self.new ≡ self.old) }
     {
         let statement = self.number_due(session);
-        make_room(&mut self.events, self.shape.sessions)?;
-        let kept = &mut self.sessions[place_of(session)];
-        kept.taken = statement;
-        kept.block = block_passed(word, kept.block);
-        append(
-            &mut self.events,
+        self.record(
+            session,
             Event::Pass {
                 session,
                 statement,
                 word,
             },
-        );
-        Ok(())
+        )
     }
 
     /// The session's script is at its end. Where memory runs out, nothing has happened.
     pub fn ended(&mut self, session: u32) -> Result<(), AllocError>
-        requires session { IsSession self.old.scripts session }
-        requires comes { Comes self.old (event.End session) }
+        requires session { IsSession self.old.world session }
+        requires comes { IsNextEvent self.old (event.End session) }
         ensures ok { OnOk result (self.new ≡ with_event self.old (event.End session)) }
         ensures err { OnErr result (self.new ≡ self.old) }
     {
-        make_room(&mut self.events, self.shape.sessions)?;
-        let kept = &mut self.sessions[place_of(session)];
-        kept.stage = Stage::Ended;
-        kept.block = Block::Outside;
-        kept.transaction = None;
-        append(&mut self.events, Event::End { session });
-        Ok(())
+        self.record(session, Event::End { session })
     }
 
-    /// The session's next statement is refused without being opened, and its transaction ends without a trace. Where memory
-    /// runs out, nothing has happened.
+    /// The session's next statement is refused without being opened, and its transaction ends without a trace. Where
+    /// memory runs out, nothing has happened.
     pub fn declined(&mut self, session: u32, refusal: Refusal) -> Result<(), AllocError>
-        requires session { IsSession self.old.scripts session }
-        requires comes { Comes self.old (event.Refuse session (number_due self.old session) refusal) }
-        ensures ok { OnOk result (self.new ≡ with_event self.old (event.Refuse session (number_due self.old session) refusal)) }
+        requires session { IsSession self.old.world session }
+        requires comes { IsNextEvent self.old (event.Refuse session (number_due self.old session) refusal) }
+        ensures ok { OnOk result (self.new
+            ≡ with_event self.old (event.Refuse session (number_due self.old session) refusal)) }
         ensures trace { OnOk result (LeavesNoTrace self.old session self.new) }
         ensures err { OnErr result (self.new ≡ self.old) }
     {
         let statement = self.number_due(session);
-        make_room(&mut self.events, self.shape.sessions)?;
-        let given = given(&self.scripts, session, statement);
-        self.sessions[place_of(session)].refuse(statement, given, &refusal);
-        append(
-            &mut self.events,
+        self.record(
+            session,
             Event::Refuse {
                 session,
                 statement,
                 refusal,
             },
-        );
-        Ok(())
+        )
     }
 
     /// The session's open statement is refused, and its transaction ends without a trace. It takes no memory.
     pub fn refused(&mut self, session: u32, refusal: Refusal)
-        requires session { IsSession self.old.scripts session }
-        requires open { turn_in self.old session ≡ AnswerOf (number_due self.old session) }
-        requires comes { Comes self.old (event.Refuse session (number_due self.old session) refusal) }
+        requires session { IsSession self.old.world session }
+        requires open { turn_of self.old session ≡ AnswerOf (number_due self.old session) }
+        requires comes { IsNextEvent self.old (event.Refuse session (number_due self.old session) refusal) }
         ensures now { self.new ≡ with_event self.old (event.Refuse session (number_due self.old session) refusal) }
         ensures trace { LeavesNoTrace self.old session self.new }
     {
         let statement = self.number_due(session);
-        let given = given(&self.scripts, session, statement);
-        self.sessions[place_of(session)].refuse(statement, given, &refusal);
-        append(
-            &mut self.events,
+        self.record_in_room(
+            session,
             Event::Refuse {
                 session,
                 statement,
@@ -274,66 +319,23 @@ impl Core {
 
     /// The session's block ends without a trace. It takes no memory.
     pub fn rolled_back(&mut self, session: u32)
-        requires session { IsSession self.old.scripts session }
-        requires comes { Comes self.old (event.Rollback session (number_due self.old session)) }
+        requires session { IsSession self.old.world session }
+        requires comes { IsNextEvent self.old (event.Rollback session (number_due self.old session)) }
         ensures { self.new ≡ with_event self.old (event.Rollback session (number_due self.old session)) }
     {
         let statement = self.number_due(session);
-        self.sessions[place_of(session)] = Session::between(statement, Block::Outside);
-        append(&mut self.events, Event::Rollback { session, statement });
-    }
-
-    /// The session's next statement is opened, which begins a transaction where none is open, and it gives where the
-    /// statement is worked on. Where memory runs out, nothing has happened.
-    pub fn opened(&mut self, session: u32) -> Result<Route, AllocError>
-        requires session { IsSession self.old.scripts session }
-        requires comes { Comes self.old (opening_in self.old session) }
-        ensures ok { IfOk result (λ route. (route ≡ route_next self.old session) × (self.new ≡ with_event self.old (opening_in self.old session))) }
-        ensures err { OnErr result (self.new ≡ self.old) }
-    {
-        let statement = self.number_due(session);
-        let snapshot = self.snapshot_next(session);
-        let alloc = *self.events.allocator();
-        let next = opening(alloc, given(&self.scripts, session, statement), snapshot)?;
-        make_room(&mut self.events, self.shape.sessions)?;
-        let kept = &mut self.sessions[place_of(session)];
-        open(&mut kept.transaction, next)?;
-        kept.taken = statement;
-        kept.stage = Stage::Opened;
-        append(
-            &mut self.events,
-            Event::Opened {
-                session,
-                statement,
-                snapshot,
-                route: Route::Main,
-            },
-        );
-        Ok(Route::Main)
-    }
-
-    /// The snapshot of the statement that the session opens next: its transaction's, or all commits where it begins one.
-    fn snapshot_next(&self, session: u32) -> u64
-        requires session { IsSession self.now.scripts session }
-        ensures { result ≡ snapshot_next self.now session }
-    {
-        match &self.sessions[place_of(session)].transaction {
-            Some(transaction) => transaction.taken.snapshot,
-            None => self.certifier.len(),
-        }
+        self.record_in_room(session, Event::Rollback { session, statement });
     }
 
     /// The session's open statement is answered. It takes no memory.
     pub fn answered(&mut self, session: u32, answer: Answer)
-        requires session { IsSession self.old.scripts session }
-        requires comes { Comes self.old (event.Answer session (number_due self.old session) answer) }
+        requires session { IsSession self.old.world session }
+        requires comes { IsNextEvent self.old (event.Answer session (number_due self.old session) answer) }
         ensures { self.new ≡ with_event self.old (event.Answer session (number_due self.old session) answer) }
     {
         let statement = self.number_due(session);
-        let kept = &mut self.sessions[place_of(session)];
-        kept.stage = stage_answered(kept.block);
-        append(
-            &mut self.events,
+        self.record_in_room(
+            session,
             Event::Answer {
                 session,
                 statement,
@@ -342,42 +344,80 @@ impl Core {
         );
     }
 
-    /// Decides on the commit that is due of the session: the transaction is committed where its low watermark is above its
-    /// high one. Else it is a violation, and where memory runs out for the certifier, the commit is refused; both leave no
-    /// trace.
+    /// The snapshot of the statement that the session opens next: its transaction's, or all commits where it begins
+    /// one.
+    fn snapshot_due(&self, session: u32) -> u64
+        requires session { IsSession self.now.world session }
+        ensures { result ≡ snapshot_due self.now session }
+    {
+        match self.transaction(session) {
+            Some(taken) => taken.snapshot,
+            None => self.certifier.len(),
+        }
+    }
+
+    /// The session's next statement is opened, which begins a transaction where none is open, and it gives where the
+    /// statement is worked on. Where memory runs out, nothing has happened.
+    pub fn opened(&mut self, session: u32) -> Result<Route, AllocError>
+        requires session { IsSession self.old.world session }
+        requires comes { IsNextEvent self.old (opening_due self.old session) }
+        ensures ok { IfOk result (λ route. (route ≡ route_due self.old session)
+            × (self.new ≡ with_event self.old (opening_due self.old session))) }
+        ensures err { OnErr result (self.new ≡ self.old) }
+    {
+        let statement = self.number_due(session);
+        let snapshot = self.snapshot_due(session);
+        let alloc = *self.events.allocator();
+        make_room(&mut self.events, self.shape.sessions)?;
+        let given = given(&self.world, session, statement as usize);
+        let kept = &mut self.sessions[place_of(session)];
+        open(alloc, &mut kept.transaction, given, snapshot)?;
+        let event = Event::Opened {
+            session,
+            statement,
+            snapshot,
+            route: Route::Main,
+        };
+        put(
+            &self.world,
+            &mut self.sessions,
+            &mut self.events,
+            session,
+            event,
+        );
+        Ok(Route::Main)
+    }
+
+    /// Decides on the commit that is due of the session: the transaction is committed where its low watermark is above
+    /// its high one. Else it is a violation, and where memory runs out for the certifier, the commit is refused; both
+    /// leave no trace.
     pub fn commit(&mut self, session: u32) -> Committed
-        requires session { IsSession self.old.scripts session }
-        requires follows { FollowsAfter self.old.shape self.old.scripts self.old.events (commit_in self.old session) }
+        requires session { IsSession self.old.world session }
+        requires follows { FollowsAfter self.old (commit_due self.old session) }
         ensures now { self.new ≡ with_event self.old (decision_of session (number_due self.old session) result) }
-        ensures comes { Comes self.old (decision_of session (number_due self.old session) result) }
+        ensures comes { IsNextEvent self.old (decision_of session (number_due self.old session) result) }
         ensures trace { LeavesUnlessStamped result self.old session self.new }
     {
         let statement = self.number_due(session);
-        let kept = &mut self.sessions[place_of(session)];
-        let Session { transaction, .. } = mem::replace(
-            kept,
-            Session::between(statement, Block::Outside),
-        );
-        let Some(transaction) = transaction else {
+        let Some(transaction) = self.sessions[place_of(session)].transaction.take() else {
             unreachable!()
         };
         let (decided, event) = decide(&mut self.certifier, session, statement, transaction);
-        append(&mut self.events, event);
+        put(
+            &self.world,
+            &mut self.sessions,
+            &mut self.events,
+            session,
+            event,
+        );
         decided
-    }
-
-    /// The events so far, the oldest first.
-    pub fn events(&self) -> &[Event]
-        ensures { reverse result.now ≡ self.now.events }
-    {
-        self.events.as_slice()
     }
 
     /// The journal of what happened, which is legal.
     pub fn into_journal(self) -> Journal
         ensures shape { result.shape ≡ self.shape }
-        ensures events { history result ≡ self.events }
-        ensures legal { IsLegal self.scripts result }
+        ensures events { events_of result ≡ self.events }
+        ensures legal { IsLegal self.world result }
     {
         let Core { shape, events, .. } = self;
         Journal {
@@ -395,14 +435,4 @@ fn make_room(events: &mut Vec<Event>, sessions: u32) -> Result<(), AllocError>
     ensures room { OnOk result (vec_len events.new + 2 * sessions + 1 ≤ vec_capacity events.new) }
 {
     events.reserve(2 * sessions as usize + 1)
-}
-
-/// Puts the event behind the others, for which there is room.
-fn append(events: &mut Vec<Event>, event: Event)
-    requires { vec_len events.old < vec_capacity events.old }
-    ensures items { events.new.items ≡ events.old.items ++ event ∷ [] }
-    ensures len { vec_len events.new ≡ vec_len events.old + 1 }
-    ensures capacity { vec_capacity events.old ≤ vec_capacity events.new }
-{
-    let _ = events.push(event);
 }

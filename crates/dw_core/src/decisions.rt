@@ -1,12 +1,13 @@
 //! How a commit is decided.
-ghost use Rattle.std.specs.Prelude.{◌≡◌};
-ghost use Rattle.dw_core.specs.Readers.{decision_of};
-ghost use Rattle.dw_core.specs.Decisions.{Decides};
+ghost use Rattle.std.specs.Prelude.{◌≡◌, ◌<◌, ◌≤◌, Some, length, slice_get};
+ghost use Rattle.dw_core.specs.Decisions.{IsDecided};
+ghost use Rattle.dw_core.specs.DueEvents.{decision_of};
 
-use crate::sessions::Transaction;
+use crate::transactions::Transaction;
 use dw_journal::Event;
 use dw_model::{Object, Refusal};
-use dw_ssn::{Certifier, Marks, Taken};
+use dw_ssn::{Certifier, Marks};
+use dw_value::List;
 
 /// How a commit was decided.
 #[derive(Debug, Drop)]
@@ -26,29 +27,28 @@ pub(crate) fn decide(
     statement: u32,
     transaction: Transaction,
 ) -> (Committed, Event)
-    requires { transaction.named ≡ transaction.taken.reads }
+    requires names { transaction.named ≡ transaction.taken.reads }
+    requires oldest { certifier.old.oldest ≤ transaction.taken.snapshot }
     ensures event { result.1 ≡ decision_of session statement result.0 }
-    ensures decides { Decides transaction.taken certifier.old.commits certifier.new.commits result.0 }
+    ensures decides { IsDecided transaction.taken certifier.old certifier.new result.0 }
 {
     let Transaction { taken, named } = transaction;
     let marks = certifier.watermarks(&taken);
     let Marks { low, high, by } = marks;
     if low <= high {
         let by = by.unwrap();
-        let object = taken.reads.into_vec().swap_remove(by);
-        let told = named.into_vec().swap_remove(by);
         return (
             Committed::Violation {
                 low,
                 high,
-                object: told,
+                object: taken_out(named, by),
             },
             Event::Violation {
                 session,
                 statement,
                 low,
                 high,
-                object,
+                object: taken_out(taken.reads, by),
             },
         );
     }
@@ -72,4 +72,12 @@ pub(crate) fn decide(
             },
         ),
     }
+}
+
+/// The object at this place. It takes no memory.
+fn taken_out(objects: List<Object>, place: usize) -> Object
+    requires { place < length objects }
+    ensures { slice_get objects place ≡ Some result }
+{
+    objects.into_vec().swap_remove(place)
 }

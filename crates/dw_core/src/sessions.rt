@@ -1,32 +1,18 @@
 //! What is kept of each session, and how its events change that.
-ghost use Rattle.std.specs.Prelude.{◌≡◌, ◌+◌, ◌-◌, ◌<◌, ◌≤◌, ◌++◌, []};
-ghost use Rattle.std.specs.Prelude.{Some, None, take, OnOk, OnErr, IfOk};
+ghost use Rattle.std.specs.Prelude.{◌≡◌, ◌-◌, ◌+◌, ◌<◌, ◌≤◌, ◌++◌, [], ◌∷◌, ℕ, Some, None, slice_get, vec_len, vec_capacity};
 ghost use Rattle.std.specs.Option.{option_copied};
-ghost use Rattle.dw_model.specs.Objects.{reads_of, writes_of};
-ghost use Rattle.dw_journal.specs.History.{IsSession, script_of, given_at, read_in};
-ghost use Rattle.dw_journal.specs.Blocks.{passed_in};
-ghost use Rattle.dw_core.specs.Readers.{block_meant};
-ghost use Rattle.dw_core.specs.Changes.{block_refused, stage_answered, opening, opened_by, extended};
+ghost use Rattle.std.specs.List.{slice_set};
+ghost use Rattle.dw_journal.specs.Worlds.{given_at, read_in};
+ghost use Rattle.dw_journal.specs.History.{statements_after};
+ghost use Rattle.dw_journal.specs.Blocks.{block_after, block_refused, passed_in};
+ghost use Rattle.dw_core.specs.Changes.{answered_stage, ends_transaction, session_after, stage_after};
+ghost use Rattle.dw_core.specs.declared.sessions.Session.{Session as Kept};
+ghost use Rattle.dw_journal.specs.declared.BlockState.TheVariants as blocks;
 ghost use Rattle.dw_core.specs.declared.sessions.Stage.TheVariants as stage;
 
-use crate::objects::{reads_of, writes_of};
-use dw_journal::{Given, Scripts};
-use dw_model::{Object, Refusal, Statement, Word};
-use dw_ssn::Taken;
-use dw_value::List;
-use std::alloc::{AllocError, Global};
-use std::mem;
-
-/// Where a session stands, after the SQL standard's transactions.
-#[derive(Clone, Copy, Debug, PartialEq, Eq)]
-pub enum Block {
-    /// In no block: each statement is a transaction of its own.
-    Outside,
-    /// In a block, whose statements are one transaction.
-    Within,
-    /// In a block of which a statement was refused, so that it can only be rolled back.
-    Aborted,
-}
+use crate::transactions::Transaction;
+use dw_journal::{BlockState, Event, Given, World, place_of};
+use dw_model::{Refusal, Statement, Word};
 
 /// How far a session has come with the last statement that it took.
 #[derive(Clone, Copy, Debug, PartialEq, Eq)]
@@ -41,191 +27,180 @@ pub(crate) enum Stage {
     Ended,
 }
 
-/// What is known of a session.
+/// What is kept of a session.
 #[derive(Debug, Drop)]
 pub(crate) struct Session {
     /// How many statements of its script it has taken.
     pub(crate) taken: u32,
     pub(crate) stage: Stage,
-    pub(crate) block: Block,
+    pub(crate) block: BlockState,
     /// Its open transaction.
     pub(crate) transaction: Option<Transaction>,
 }
 
-/// An open transaction, with what its open statement reads and writes.
-#[derive(Debug, Drop)]
-pub(crate) struct Transaction {
-    pub(crate) taken: Taken,
-    /// A second copy of what it reads, for the answer of a violation.
-    pub(crate) named: List<Object>,
-}
-
 impl Session {
-    /// A session that has done this many statements, and has no open transaction.
-    pub(crate) fn between(taken: u32, block: Block) -> Session
-        ensures { result ≡ record { taken = taken; stage = stage.Between; block = block; transaction = None } }
+    /// A session that has done nothing yet.
+    pub(crate) fn fresh() -> Session
+        ensures { result ≡ record { taken = 0; stage = stage.Between; block = blocks.Outside; transaction = None } }
     {
         Session {
-            taken,
+            taken: 0,
             stage: Stage::Between,
-            block,
+            block: BlockState::Outside,
             transaction: None,
         }
     }
 
-    /// This statement of its script is refused, by which its transaction ends, and its block is aborted or ends.
-    pub(crate) fn refuse(&mut self, statement: u32, given: Option<&Given>, refusal: &Refusal)
-        ensures block { block_meant self.new.block ≡ block_refused (read_in (option_copied given.entry)) refusal.now (block_meant self.old.block) }
-        ensures session { self.new ≡ record { taken = statement; stage = stage.Between; block = self.new.block; transaction = None } }
+    /// The session has this event. What an opened statement takes has been kept before.
+    fn advance(&mut self, world: &World, event: &Event)
+        ensures { self.new ≡ session_after world.now event.now self.old }
     {
-        let block = block_refused(given, refusal, self.block);
-        *self = Session::between(statement, block);
+        self.taken = statements_after(event, self.taken);
+        self.block = block_after(world, event, self.block);
+        self.stage = stage_after(event, self.block);
+        if ends_transaction(event) {
+            self.transaction = None;
+        }
     }
 }
 
-/// The place of a session among all.
-pub(crate) fn place_of(session: u32) -> usize
-    requires { 1 ≤ session }
-    ensures { result ≡ session - 1 }
+/// The event is put after the others, for which there is room, and its session has it.
+pub(crate) fn put(
+    world: &World,
+    sessions: &mut Vec<Session>,
+    events: &mut Vec<Event>,
+    session: u32,
+    event: Event,
+)
+    requires first { 1 ≤ session }
+    requires within { session - 1 < vec_len sessions.old }
+    requires room { vec_len events.old < vec_capacity events.old }
+    ensures kept { (kept : Kept) → slice_get sessions.old.items (session - 1) ≡ Some kept
+        → sessions.new.items ≡ slice_set sessions.old.items (session - 1) (session_after world.now event kept) }
+    ensures items { events.new.items ≡ events.old.items ++ event ∷ [] }
+    ensures len { vec_len events.new ≡ vec_len events.old + 1 }
+    ensures capacity { vec_capacity events.old ≤ vec_capacity events.new }
 {
-    session as usize - 1
+    sessions[place_of(session)].advance(world, &event);
+    let _ = events.push(event);
 }
 
-/// The session's script.
-pub(crate) fn script(scripts: &Scripts, session: u32) -> &[Given]
-    requires { IsSession scripts.now session }
-    ensures { result.now ≡ script_of scripts.now session }
+/// The statement of this number of a session's script, from 1. Session 0 has no script, and there is no statement 0.
+pub(crate) fn given(world: &World, session: u32, number: usize) -> Option<&Given>
+    ensures { option_copied result ≡ given_at world.now session number }
 {
-    scripts.as_slice()[place_of(session)].as_slice()
+    if session == 0 || number == 0 {
+        return None;
+    }
+    match world.scripts.get(place_of(session)) {
+        Some(script) => script.get(number - 1),
+        None => None,
+    }
 }
 
-/// The statement of this number of the session's script, from 1.
-pub(crate) fn given(scripts: &Scripts, session: u32, number: u32) -> Option<&Given>
-    requires { IsSession scripts.now session }
-    ensures { option_copied result ≡ given_at scripts.now session number }
+/// How many statements a session has taken once it has this event.
+fn statements_after(event: &Event, before: u32) -> u32
+    ensures { result ≡ statements_after event.now before }
 {
-    script(scripts, session).get((number as usize).saturating_sub(1))
+    match event {
+        Event::Begin { statement, .. }
+        | Event::Pass { statement, .. }
+        | Event::Opened { statement, .. }
+        | Event::Answer { statement, .. }
+        | Event::Commit { statement, .. }
+        | Event::Violation { statement, .. }
+        | Event::Refuse { statement, .. }
+        | Event::Rollback { statement, .. }
+        | Event::VacuumBegin { statement, .. }
+        | Event::VacuumSlice { statement, .. }
+        | Event::VacuumEnd { statement, .. } => *statement,
+        Event::Wait { .. } | Event::Refresh { .. } | Event::End { .. } => before,
+    }
+}
+
+/// Where a session stands once it has this event.
+fn block_after(world: &World, event: &Event, before: BlockState) -> BlockState
+    ensures { result ≡ block_after world.now event.now before }
+{
+    match event {
+        Event::Begin { .. } => BlockState::Within,
+        Event::Pass { word, .. } => block_passed(*word, before),
+        Event::Refuse {
+            session,
+            statement,
+            refusal,
+        } => block_refused(given(world, *session, *statement as usize), refusal, before),
+        Event::Commit { .. }
+        | Event::Violation { .. }
+        | Event::Rollback { .. }
+        | Event::End { .. } => BlockState::Outside,
+        Event::Wait { .. }
+        | Event::Opened { .. }
+        | Event::Answer { .. }
+        | Event::VacuumBegin { .. }
+        | Event::VacuumSlice { .. }
+        | Event::VacuumEnd { .. }
+        | Event::Refresh { .. } => before,
+    }
 }
 
 /// Where a session stands once a word passes.
-pub(crate) fn block_passed(word: Word, before: Block) -> Block
-    ensures { block_meant result ≡ passed_in word (block_meant before) }
+fn block_passed(word: Word, before: BlockState) -> BlockState
+    ensures { result ≡ passed_in word before }
 {
     if matches!(word, Word::Commit) {
-        Block::Outside
+        BlockState::Outside
     } else {
         before
     }
 }
 
 /// Where a session stands once this statement is refused.
-fn block_refused(given: Option<&Given>, refusal: &Refusal, before: Block) -> Block
-    ensures { block_meant result ≡ block_refused (read_in (option_copied given.entry)) refusal.now (block_meant before) }
+fn block_refused(given: Option<&Given>, refusal: &Refusal, before: BlockState) -> BlockState
+    ensures { result ≡ block_refused (read_in (option_copied given.entry)) refusal.now before }
 {
     let is_commit = matches!(given, Some(Given::Read(Statement::Commit)));
     if is_commit && matches!(refusal, Refusal::Memory) {
-        return Block::Outside;
+        return BlockState::Outside;
     }
     match before {
-        Block::Outside => Block::Outside,
-        Block::Within | Block::Aborted => Block::Aborted,
+        BlockState::Outside => BlockState::Outside,
+        BlockState::Within | BlockState::Aborted => BlockState::Aborted,
+    }
+}
+
+/// How far a session has come once it has this event, after which it stands in this block.
+fn stage_after(event: &Event, block: BlockState) -> Stage
+    ensures { result ≡ stage_after event.now block }
+{
+    match event {
+        Event::Opened { .. } => Stage::Opened,
+        Event::Answer { .. } => answered_stage(block),
+        Event::End { .. } => Stage::Ended,
+        _ => Stage::Between,
     }
 }
 
 /// How far a session has come once its open statement is answered.
-pub(crate) fn stage_answered(block: Block) -> Stage
-    ensures { result ≡ stage_answered block }
+fn answered_stage(block: BlockState) -> Stage
+    ensures { result ≡ answered_stage block }
 {
     match block {
-        Block::Outside => Stage::Answered,
-        Block::Within | Block::Aborted => Stage::Between,
+        BlockState::Outside => Stage::Answered,
+        BlockState::Within | BlockState::Aborted => Stage::Between,
     }
 }
 
-/// The objects that the statement reads and writes, as those of a transaction of this snapshot.
-pub(crate) fn opening(
-    alloc: Global,
-    given: Option<&Given>,
-    snapshot: u64,
-) -> Result<Transaction, AllocError>
-    ensures { IfOk result (λ transaction. transaction ≡ opening (read_in (option_copied given.entry)) snapshot) }
+/// Whether the session's transaction ends with this event.
+fn ends_transaction(event: &Event) -> bool
+    ensures { result ≡ ends_transaction event.now }
 {
-    let Some(Given::Read(statement)) = given else {
-        return Ok(Transaction {
-            taken: Taken {
-                snapshot,
-                reads: List::new(alloc),
-                writes: List::new(alloc),
-            },
-            named: List::new(alloc),
-        });
-    };
-    Ok(Transaction {
-        taken: Taken {
-            snapshot,
-            reads: reads_of(alloc, statement)?,
-            writes: writes_of(alloc, statement)?,
-        },
-        named: reads_of(alloc, statement)?,
-    })
-}
-
-/// The transaction goes on with these objects, or is this one where none is open. Where memory runs out, it stays as it is.
-pub(crate) fn open(kept: &mut Option<Transaction>, next: Transaction) -> Result<(), AllocError>
-    ensures ok { OnOk result (kept.new ≡ Some (opened_by next kept.old)) }
-    ensures err { OnErr result (kept.new ≡ kept.old) }
-{
-    match kept {
-        Some(transaction) => widen(transaction, next),
-        None => {
-            *kept = Some(next);
-            Ok(())
-        }
-    }
-}
-
-/// The transaction takes these objects, too. Where memory runs out, it stays as it is.
-fn widen(transaction: &mut Transaction, next: Transaction) -> Result<(), AllocError>
-    ensures ok { OnOk result (transaction.new ≡ extended next transaction.old) }
-    ensures err { OnErr result (transaction.new ≡ transaction.old) }
-{
-    let Transaction {
-        taken: Taken { reads, writes, .. },
-        named,
-    } = next;
-    let read = transaction.taken.reads.len();
-    let written = transaction.taken.writes.len();
-    extend(&mut transaction.taken.reads, reads)?;
-    if extend(&mut transaction.taken.writes, writes).is_err() {
-        truncate(&mut transaction.taken.reads, read);
-        return Err(AllocError);
-    }
-    if extend(&mut transaction.named, named).is_err() {
-        truncate(&mut transaction.taken.reads, read);
-        truncate(&mut transaction.taken.writes, written);
-        return Err(AllocError);
-    }
-    Ok(())
-}
-
-/// Puts all of these behind the others or, where memory runs out, none.
-fn extend(objects: &mut List<Object>, more: List<Object>) -> Result<(), AllocError>
-    ensures ok { OnOk result (objects.new ≡ objects.old ++ more) }
-    ensures err { OnErr result (objects.new ≡ objects.old) }
-{
-    let alloc = objects.allocator();
-    let mut items = mem::replace(objects, List::new(alloc)).into_vec();
-    let done = items.append(&mut more.into_vec());
-    *objects = List::from_vec(items);
-    done
-}
-
-/// Keeps the first ones.
-fn truncate(objects: &mut List<Object>, count: usize)
-    ensures { objects.new ≡ take count objects.old }
-{
-    let alloc = objects.allocator();
-    let mut items = mem::replace(objects, List::new(alloc)).into_vec();
-    items.truncate(count);
-    *objects = List::from_vec(items);
+    matches!(
+        event,
+        Event::Commit { .. }
+            | Event::Violation { .. }
+            | Event::Refuse { .. }
+            | Event::Rollback { .. }
+            | Event::End { .. }
+    )
 }

@@ -1,15 +1,14 @@
 //! Sessions whose statements open nothing, driven to their end with ample memory.
 ghost use Rattle.std.specs.Prelude.{◌≡◌, ◌<◌, length, IfOk};
 ghost use Rattle.dw_journal.specs.Blocks.{block_of};
-ghost use Rattle.dw_journal.specs.History.{IsSession};
-ghost use Rattle.dw_journal.specs.Turns.{Begins, Commits, RollsBack, Taking};
-ghost use Rattle.dw_core.specs.Machine.{turn_in, number_due};
-ghost use Rattle.dw_core.specs.Readers.{AreShort, MeansTurn, block_meant};
+ghost use Rattle.dw_journal.specs.Worlds.{AreShort, IsSession, session_count};
+ghost use Rattle.dw_journal.specs.Turns.{Begins, Commits, RollsBack, Taking, number_due, turn_of};
+ghost use Rattle.dw_core.specs.Readers.{MeansTurn};
 ghost use Rattle.dw_core.specs.declared.cores.Next.TheVariants as turn;
 
-use crate::{Block, Core, Next};
-use dw_journal::{Event, Given, Shape};
-use dw_model::{Refusal, Statement, Word};
+use crate::{Core, Next};
+use dw_journal::{BlockState, Event, Given, Shape, World};
+use dw_model::{FileMap, Refusal, Statement, Word};
 use dw_value::List;
 use std::alloc::{AllocError, Global};
 use std::test::Fail;
@@ -28,26 +27,25 @@ fn script(alloc: Global, letters: &str) -> Result<List<Given>, AllocError> {
     Ok(script)
 }
 
-/// The scripts of two sessions.
-fn scripts(
-    alloc: Global,
-    first: List<Given>,
-    second: List<Given>,
-) -> Result<List<List<Given>>, AllocError>
+/// The scripts of two sessions, and no file.
+fn world(alloc: Global, first: List<Given>, second: List<Given>) -> Result<World, AllocError>
     requires first { length first < 100 }
     requires second { length second < 100 }
-    ensures { IfOk result (λ scripts. (length scripts ≡ 2) × AreShort scripts) }
+    ensures { IfOk result (λ world. (session_count world ≡ 2) × AreShort world.scripts) }
 {
     let mut scripts = List::new(alloc);
     scripts.push(first)?;
     scripts.push(second)?;
-    Ok(scripts)
+    Ok(World {
+        scripts,
+        files: FileMap::new(alloc),
+    })
 }
 
 /// The session's next event.
 fn step(core: &mut Core, session: u32) -> Result<(), AllocError>
-    requires { IsSession core.old.scripts session }
-    ensures { core.new.scripts ≡ core.old.scripts }
+    requires { IsSession core.old.world session }
+    ensures { core.new.world ≡ core.old.world }
 {
     match core.next(session) {
         Next::End => core.ended(session),
@@ -58,9 +56,9 @@ fn step(core: &mut Core, session: u32) -> Result<(), AllocError>
 
 /// Takes the session's next statement, where it opens nothing.
 fn take(core: &mut Core, session: u32) -> Result<(), AllocError>
-    requires session { IsSession core.old.scripts session }
+    requires session { IsSession core.old.world session }
     requires take { MeansTurn core.old session turn.Take }
-    ensures { core.new.scripts ≡ core.old.scripts }
+    ensures { core.new.world ≡ core.old.world }
 {
     let block = core.block(session);
     match core.given(session) {
@@ -75,48 +73,48 @@ fn take(core: &mut Core, session: u32) -> Result<(), AllocError>
     }
 }
 
-fn begin(core: &mut Core, session: u32, block: Block) -> Result<(), AllocError>
-    requires session { IsSession core.old.scripts session }
-    requires due { turn_in core.old session ≡ Taking (number_due core.old session) Begins }
-    requires block { block_meant block ≡ block_of core.old.scripts session core.old.events }
-    ensures { core.new.scripts ≡ core.old.scripts }
+fn begin(core: &mut Core, session: u32, block: BlockState) -> Result<(), AllocError>
+    requires session { IsSession core.old.world session }
+    requires due { turn_of core.old session ≡ Taking (number_due core.old session) Begins }
+    requires block { block ≡ block_of core.old session }
+    ensures { core.new.world ≡ core.old.world }
 {
     match block {
-        Block::Outside => core.begun(session),
-        Block::Within => core.passed(session, Word::Begin),
-        Block::Aborted => core.declined(session, Refusal::Aborted),
+        BlockState::Outside => core.begun(session),
+        BlockState::Within => core.passed(session, Word::Begin),
+        BlockState::Aborted => core.declined(session, Refusal::Aborted),
     }
 }
 
 /// In a block only where nothing was opened in it.
-fn commit(core: &mut Core, session: u32, block: Block) -> Result<(), AllocError>
-    requires session { IsSession core.old.scripts session }
-    requires due { turn_in core.old session ≡ Taking (number_due core.old session) Commits }
-    requires block { block_meant block ≡ block_of core.old.scripts session core.old.events }
-    ensures { core.new.scripts ≡ core.old.scripts }
+fn commit(core: &mut Core, session: u32, block: BlockState) -> Result<(), AllocError>
+    requires session { IsSession core.old.world session }
+    requires due { turn_of core.old session ≡ Taking (number_due core.old session) Commits }
+    requires block { block ≡ block_of core.old session }
+    ensures { core.new.world ≡ core.old.world }
 {
     match block {
-        Block::Outside => core.passed(session, Word::Commit),
-        Block::Within => match core.transaction(session) {
+        BlockState::Outside => core.passed(session, Word::Commit),
+        BlockState::Within => match core.transaction(session) {
             Some(_) => Ok(()),
             None => core.passed(session, Word::Commit),
         },
-        Block::Aborted => {
+        BlockState::Aborted => {
             core.rolled_back(session);
             Ok(())
         }
     }
 }
 
-fn roll_back(core: &mut Core, session: u32, block: Block) -> Result<(), AllocError>
-    requires session { IsSession core.old.scripts session }
-    requires due { turn_in core.old session ≡ Taking (number_due core.old session) RollsBack }
-    requires block { block_meant block ≡ block_of core.old.scripts session core.old.events }
-    ensures { core.new.scripts ≡ core.old.scripts }
+fn roll_back(core: &mut Core, session: u32, block: BlockState) -> Result<(), AllocError>
+    requires session { IsSession core.old.world session }
+    requires due { turn_of core.old session ≡ Taking (number_due core.old session) RollsBack }
+    requires block { block ≡ block_of core.old session }
+    ensures { core.new.world ≡ core.old.world }
 {
     match block {
-        Block::Outside => core.passed(session, Word::Rollback),
-        Block::Within | Block::Aborted => {
+        BlockState::Outside => core.passed(session, Word::Rollback),
+        BlockState::Within | BlockState::Aborted => {
             core.rolled_back(session);
             Ok(())
         }
@@ -135,21 +133,22 @@ fn letter(event: &Event) -> char {
     }
 }
 
-/// Blocks begin, are aborted by a refusal, and end; words that have nothing to do pass. The second session ends at once.
+/// Blocks begin, are aborted by a refusal, and end; words that have nothing to do pass. The second session ends at
+/// once.
 #[test]
 fn blocks_of_a_session(rt: HostRuntime) -> Result<(), Fail> {
     let alloc = rt.alloc();
     let first = script(alloc, "bbxbccbcbrr")?;
     let second = script(alloc, "")?;
     assert!(rt; first.len() < 100 && second.len() < 100);
-    let mut core = Core::new(alloc, Shape::standard(2), scripts(alloc, first, second)?)?;
+    let mut core = Core::new(alloc, Shape::standard(2), world(alloc, first, second)?)?;
     assert_eq!(rt; core.next(1), Next::Take);
     for _ in 0..12 {
         step(&mut core, 1)?;
         step(&mut core, 2)?;
     }
     assert_eq!(rt; core.next(1), Next::Nothing);
-    assert_eq!(rt; core.block(1), Block::Outside);
+    assert_eq!(rt; core.block(1), BlockState::Outside);
     let journal = core.into_journal();
     let wanted = "BEPRRXPBPBXPE";
     assert_eq!(rt; journal.events.len(), wanted.len());

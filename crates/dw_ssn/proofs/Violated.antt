@@ -1,19 +1,19 @@
 -- The object that a violation names.
 use Rattle.std.proofs.Common.{inl, inr, ◌≡◌, ℕ, ◌+◌, ◌<◌, ◌≤◌, min, List, [], ◌∷◌, ◌++◌, length, get_or, take, reverse, refl, sym, ap, subst, ◌∙◌, arith, Bool, true, false, cond}
-use Rattle.std.specs.Prelude.{◌&&◌, ◌||◌, ◌==◌, nat_lt, if◌then◌else◌, Option, Some, None, slice_get, option_and_then, is_some}
+use Rattle.std.specs.Prelude.{◌&&◌, ◌||◌, ◌==◌, nat_lt, if◌then◌else◌, Option, Some, None, slice_get, option_and_then, is_some, IfSome}
 use Rattle.std.specs.List.{filter, fold, list_any}
 use Rattle.std.specs.Option.{option_map_or}
-use Rattle.std.specs.Cmp.Lexicographic.{nat_list_eq_equiv}
 use Rattle.std.proofs.lemmas.Bool.{and_parts, and_from, or_cases, or_left, or_right, cases_lt, eq-eqb, false≢true}
 use Rattle.std.proofs.lemmas.Bool.Decides.{nat_tests}
 use Rattle.std.proofs.lemmas.List.Elements.{filter_more}
 use Rattle.std.proofs.lemmas.List.{append-nil}
 use Rattle.std.proofs.lemmas.Option.{slice_get_read}
-use Rattle.dw_model.specs.declared.tables.Object.{Object}
-use Rattle.dw_model.specs.declared.tables.Object.TheVariants.{Def, Rows}
-use Rattle.dw_model.specs.Objects.{same_object, is_among}
+use Rattle.dw_model.specs.declared.objects.Object.{Object}
+use Rattle.dw_model.specs.Objects.{same_object, is_among, object_before}
+use Rattle.dw_model.proofs.ObjectSets.{same_object-back}
 use Rattle.dw_journal.specs.declared.Certified.{Certified}
-use Rattle.dw_journal.specs.Watermarks.{low_over, low_watermark, violated_object, overlaps, object_before, lesser, least_object, written_at_low}
+use Rattle.dw_journal.specs.declared.Taken.{Taken}
+use Rattle.dw_journal.specs.Watermarks.{counts_for_low, low_over, low_watermark, violated_object, overlaps, lesser, least_object, written_at_low}
 use Rattle.dw_ssn.proofs.Rest.{length_left}
 
 -- no commit that the snapshot sees counts
@@ -92,17 +92,16 @@ module _ (passes : Object → Bool) (reads : List Object) (place : ℕ) (object 
       ∙ append-nil (filter passes (take place reads)) in
       found ∙ ap least_object (sym none)
 
+-- a place so far is among one more
+pub within_more : (least : Option ℕ) (place : ℕ) → IfSome least (λ n. n < place) → IfSome least (λ n. n < place + 1)
+within_more None place within = within
+within_more (Some n) place within = omega (arith, within)
+
 -- a test that holds where another does holds of one of these, where the other does
 any_then : (p q : Object → Bool) (objects : List Object) → ((object : Object) → p object ≡ true → q object ≡ true) → list_any p objects ≡ true → list_any q objects ≡ true
 any_then p q [] so h = h
 any_then p q (object ∷ objects) so h =
     elim (or_cases (p object) (list_any p objects) h) [ inl here ↦ or_left (q object) (list_any q objects) (so object here) | inr later ↦ or_right (q object) (list_any q objects) (any_then p q objects so later) ]
-
-same_object-symm : (a b : Object) → same_object a b ≡ same_object b a
-same_object-symm (Def a) (Def b) = nat_list_eq_equiv.symm a b
-same_object-symm (Def a) (Rows b) = refl
-same_object-symm (Rows a) (Def b) = refl
-same_object-symm (Rows a) (Rows b) = nat_list_eq_equiv.symm a b
 
 -- what two sets have in common, they have the other way round
 overlaps-back : (a b : List Object) → overlaps a b ≡ true → overlaps b a ≡ true
@@ -110,33 +109,33 @@ overlaps-back [] b h = absurd (false≢true h)
 overlaps-back (object ∷ a) b h =
     elim (or_cases (is_among object b) (overlaps a b) h) [
       | inl here ↦
-          any_then (same_object object) (λ (other : Object). is_among other (object ∷ a)) b (λ other same. or_left (same_object other object) (is_among other a) (same_object-symm other object ∙ same)) here
+          any_then (same_object object) (λ (other : Object). is_among other (object ∷ a)) b (λ other same. or_left (same_object other object) (is_among other a) (same_object-back other object ∙ same)) here
       | inr later ↦
           any_then (λ (other : Object). is_among other a) (λ (other : Object). is_among other (object ∷ a)) b (λ other among. or_right (same_object other object) (is_among other a) among) (overlaps-back a b later)
     ]
 
 -- a low watermark below the stamp comes from a commit that wrote an object that was read
-module _ (stamp snapshot : ℕ) (reads : List Object) where
+module _ (stamp : ℕ) (taken : Taken) where
   abbrev over : List Certified → ℕ
-  over commits = low_over stamp snapshot reads commits
+  over commits = low_over stamp taken commits
 
   abbrev IsWritten : ℕ → List Certified → Type 0
-  IsWritten low commits = list_any (written_at_low low snapshot commits) reads ≡ true
+  IsWritten low commits = list_any (written_at_low low taken.snapshot commits) taken.reads ≡ true
 
   written_later : (low : ℕ) (commit : Certified) (older : List Certified) → IsWritten low older → IsWritten low (commit ∷ older)
   written_later low commit older h =
-      any_then (written_at_low low snapshot older) (written_at_low low snapshot (commit ∷ older)) reads (λ object. or_right (nat_lt snapshot (length (commit ∷ older)) && (commit.low == low) && is_among object commit.writes) (written_at_low low snapshot older object)) h
+      any_then (written_at_low low taken.snapshot older) (written_at_low low taken.snapshot (commit ∷ older)) taken.reads (λ object. or_right (nat_lt taken.snapshot (length (commit ∷ older)) && (commit.low == low) && is_among object commit.taken.writes) (written_at_low low taken.snapshot older object)) h
 
-  written_here : (commit : Certified) (older : List Certified) → nat_lt snapshot (length (commit ∷ older)) ≡ true → overlaps commit.writes reads ≡ true → IsWritten commit.low (commit ∷ older)
-  written_here commit older behind overlap =
-      any_then (λ (object : Object). is_among object commit.writes) (written_at_low commit.low snapshot (commit ∷ older)) reads
-      (λ object among. or_left (nat_lt snapshot (length (commit ∷ older)) && (commit.low == commit.low) && is_among object commit.writes) (written_at_low commit.low snapshot older object) (and_from (nat_lt snapshot (length (commit ∷ older)) && (commit.low == commit.low)) (is_among object commit.writes) (and_from (nat_lt snapshot (length (commit ∷ older))) (commit.low == commit.low) behind (eq-eqb commit.low commit.low refl)) among))
-      (overlaps-back commit.writes reads overlap)
+  written_here : (commit : Certified) (older : List Certified) → nat_lt taken.snapshot (length (commit ∷ older)) ≡ true → overlaps commit.taken.writes taken.reads ≡ true → IsWritten commit.low (commit ∷ older)
+  written_here commit older later overlap =
+      any_then (λ (object : Object). is_among object commit.taken.writes) (written_at_low commit.low taken.snapshot (commit ∷ older)) taken.reads
+      (λ object among. or_left (nat_lt taken.snapshot (length (commit ∷ older)) && (commit.low == commit.low) && is_among object commit.taken.writes) (written_at_low commit.low taken.snapshot older object) (and_from (nat_lt taken.snapshot (length (commit ∷ older)) && (commit.low == commit.low)) (is_among object commit.taken.writes) (and_from (nat_lt taken.snapshot (length (commit ∷ older))) (commit.low == commit.low) later (eq-eqb commit.low commit.low refl)) among))
+      (overlaps-back commit.taken.writes taken.reads overlap)
 
-  lowered_by : (commit : Certified) (older : List Certified) (counts : Bool) → (nat_lt snapshot (length (commit ∷ older)) && overlaps commit.writes reads) ≡ counts
+  lowered_by : (commit : Certified) (older : List Certified) (counts : Bool) → counts_for_low (length (commit ∷ older)) taken commit ≡ counts
       → over (commit ∷ older) < stamp → (over older < stamp → IsWritten (over older) older) → IsWritten (over (commit ∷ older)) (commit ∷ older)
   lowered_by commit older true e below rest =
-      let parts = and_parts (nat_lt snapshot (length (commit ∷ older))) (overlaps commit.writes reads) e in
+      let parts = and_parts (nat_lt taken.snapshot (length (commit ∷ older))) (overlaps commit.taken.writes taken.reads) e in
       let low_is : over (commit ∷ older) ≡ min commit.low (over older) = ap (λ (t : Bool). if t then min commit.low (over older) else over older) e in
       elim (cases_lt commit.low (over older)) [
         | inl less ↦
@@ -150,10 +149,10 @@ module _ (stamp snapshot : ℕ) (reads : List Object) where
       let low_is : over (commit ∷ older) ≡ over older = ap (λ (t : Bool). if t then min commit.low (over older) else over older) e in
       subst (λ (n : ℕ). IsWritten n (commit ∷ older)) (sym low_is) (written_later (over older) commit older (rest (omega arith)))
 
-  pub lowered : (commits : List Certified) → low_over stamp snapshot reads commits < stamp
-      → list_any (written_at_low (low_over stamp snapshot reads commits) snapshot commits) reads ≡ true
+  pub lowered : (commits : List Certified) → low_over stamp taken commits < stamp
+      → list_any (written_at_low (low_over stamp taken commits) taken.snapshot commits) taken.reads ≡ true
   lowered [] below = absurd (omega arith)
-  lowered (commit ∷ older) below = lowered_by commit older (nat_lt snapshot (length (commit ∷ older)) && overlaps commit.writes reads) refl below (lowered older)
+  lowered (commit ∷ older) below = lowered_by commit older (counts_for_low (length (commit ∷ older)) taken commit) refl below (lowered older)
 
 -- where one passes, there is a least one
 least_is_some_by : (passes : Object → Bool) (object : Object) (objects : List Object) (here : Bool) → passes object ≡ here → list_any passes (object ∷ objects) ≡ true
@@ -172,8 +171,9 @@ some_place : (reads : List Object) (place : Option ℕ) → is_some (option_and_
 some_place reads None h = h
 some_place reads (Some place) h = refl
 
-pub named : (snapshot low : ℕ) (reads : List Object) (commits : List Certified) (place : Option ℕ) → low ≡ low_watermark snapshot reads commits
-    → option_and_then (slice_get reads) place ≡ violated_object snapshot reads commits → low ≤ length commits → is_some place ≡ true
-named snapshot low reads commits place low_is by within =
-    some_place reads place
-    (ap is_some by ∙ least_is_some (written_at_low (low_watermark snapshot reads commits) snapshot commits) reads (lowered (length commits + 1) snapshot reads commits (omega arith)))
+-- what a violation names is there
+pub named : (taken : Taken) (low : ℕ) (commits : List Certified) (place : Option ℕ) → low ≡ low_watermark taken commits
+    → option_and_then (slice_get taken.reads) place ≡ violated_object taken commits → low ≤ length commits → is_some place ≡ true
+named taken low commits place low_is by within =
+    some_place taken.reads place
+    (ap is_some by ∙ least_is_some (written_at_low (low_watermark taken commits) taken.snapshot commits) taken.reads (lowered (length commits + 1) taken commits (omega arith)))

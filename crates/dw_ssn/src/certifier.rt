@@ -1,22 +1,14 @@
-ghost use Rattle.std.specs.Prelude.{◌≡◌, ◌+◌, ◌≤◌, ◌&&◌, [], ◌∷◌, length, reverse, min, max, nat_eq, nat_lt, if◌then◌else◌, slice_get, option_and_then, IsSome, OnOk, OnErr, IfOk};
-ghost use Rattle.dw_journal.specs.Watermarks.{low_watermark, high_watermark, counts_for_high, overlaps, violated_object};
+//! The list of commits, and the watermarks over it.
+ghost use Rattle.std.specs.Prelude.{◌≡◌, ◌+◌, ◌<◌, ◌≤◌, [], ◌∷◌, length, reverse, min, max, nat_eq, if◌then◌else◌, slice_get, option_and_then, IfSome, IsSome, OnOk, OnErr, IfOk};
+ghost use Rattle.dw_journal.specs.Watermarks.{low_watermark, high_watermark, counts_for_low, counts_for_high, violated_object};
 
 use crate::objects::have_common;
 use crate::violations::violated_place;
-use dw_journal::Certified;
+use dw_journal::{Certified, Taken};
 use dw_model::Object;
 use dw_value::List;
 use std::alloc::{AllocError, Global};
 use std::marker::Model;
-
-/// What a transaction took: the commits that it sees, and the objects that it read and wrote.
-#[derive(Debug, Drop)]
-pub struct Taken {
-    /// The number of commits that it sees.
-    pub snapshot: u64,
-    pub reads: List<Object>,
-    pub writes: List<Object>,
-}
 
 /// The watermarks of a transaction, and what a violation names.
 #[derive(Clone, Copy, Debug, PartialEq, Eq)]
@@ -25,16 +17,16 @@ pub struct Marks {
     pub low: u64,
     /// The high watermark. The transaction may commit where it is below the low one.
     pub high: u64,
-    /// The place, among the objects that the transaction read, of the one that a violation names: of those that a commit
-    /// behind the snapshot wrote whose low watermark is the transaction's own, the least. Objects are ordered by the
-    /// table's name, and the definition comes before the rows. It is there wherever the low watermark is no greater than
-    /// the number of commits, and so for each violation.
+    /// The place, among the objects that the transaction read, of the one that a violation names: of those that a
+    /// commit after the snapshot wrote whose low watermark is the transaction's own, the least. Objects are ordered by
+    /// the table's name, and the definition comes before the rows. It is there wherever the low watermark is no greater
+    /// than the number of commits, and so for each violation.
     pub by: Option<usize>,
 }
 
 /// The list of all commits, and the oldest snapshot that a transaction may still have. For every snapshot from that
-/// number to the list's length, and any objects, `watermarks` gives the two watermarks over the list. Contracts see it as
-/// the number with the list, the newest commit first. Pruning only raises the number so far: every commit is kept.
+/// number to the list's length, and any objects, `watermarks` gives the two watermarks over the list. Contracts see it
+/// as the number with the list, the newest commit first. Pruning only raises the number so far: every commit is kept.
 #[derive(Debug, Drop)]
 pub struct Certifier {
     oldest: u64,
@@ -43,9 +35,9 @@ pub struct Certifier {
 
 impl Model for Certifier {
     ghost use Rattle.std.specs.Prelude.{◌≤◌, length, reverse};
-    ghost use Rattle.dw_ssn.specs.Kept.{Kept};
+    ghost use Rattle.dw_ssn.specs.CommitList.{CommitList};
 
-    ghost Value = { Kept };
+    ghost Value = { CommitList };
 
     ghost view = { λ certifier. record { oldest = certifier.oldest; commits = reverse certifier.commits.items } };
 
@@ -87,11 +79,14 @@ impl Certifier {
     }
 
     /// The watermarks that a transaction has if it is the next one to commit, over all commits, and the object that a
-    /// violation names. It takes no memory.
+    /// violation names. Its snapshot is not before the oldest one. It takes no memory.
     pub fn watermarks(&self, taken: &Taken) -> Marks
-        ensures low { result.low ≡ low_watermark taken.now.snapshot taken.now.reads self.now.commits }
-        ensures high { result.high ≡ high_watermark taken.now.snapshot taken.now.reads taken.now.writes self.now.commits }
-        ensures by { option_and_then (slice_get taken.now.reads) result.by ≡ violated_object taken.now.snapshot taken.now.reads self.now.commits }
+        requires oldest { self.now.oldest ≤ taken.now.snapshot }
+        ensures low { result.low ≡ low_watermark taken.now self.now.commits }
+        ensures high { result.high ≡ high_watermark taken.now self.now.commits }
+        ensures by { option_and_then (slice_get taken.now.reads) result.by
+            ≡ violated_object taken.now self.now.commits }
+        ensures within { IfSome result.by (λ place. place < length taken.now.reads) }
         ensures named { result.low ≤ length self.now.commits → IsSome result.by }
         ensures bounded { result.high ≤ length self.now.commits }
     {
@@ -112,15 +107,13 @@ impl Certifier {
     /// nothing is added.
     pub fn admit(&mut self, taken: Taken, marks: Marks) -> Result<u64, AllocError>
         ensures stamp { IfOk result (λ stamp. stamp ≡ length self.old.commits + 1) }
-        ensures added { OnOk result (self.new.commits ≡ record { low = marks.low; reads = taken.reads; writes = taken.writes } ∷ self.old.commits) }
+        ensures added { OnOk result (self.new.commits ≡ record { low = marks.low; taken = taken } ∷ self.old.commits) }
         ensures oldest { OnOk result (self.new.oldest ≡ self.old.oldest) }
         ensures err { OnErr result (self.new ≡ self.old) }
     {
-        let Taken { reads, writes, .. } = taken;
         self.commits.push(Certified {
             low: marks.low,
-            reads,
-            writes,
+            taken,
         })?;
         Ok(self.commits.len() as u64)
     }
@@ -146,8 +139,8 @@ struct Bounds {
 /// The watermarks over these commits, the oldest first. It looks from the newest one back, and stops where no older one
 /// can count.
 fn bounds_over(commits: &[Certified], taken: &Taken) -> Bounds
-    ensures low { result.low ≡ low_watermark taken.now.snapshot taken.now.reads (reverse commits.now) }
-    ensures high { result.high ≡ high_watermark taken.now.snapshot taken.now.reads taken.now.writes (reverse commits.now) }
+    ensures low { result.low ≡ low_watermark taken.now (reverse commits.now) }
+    ensures high { result.high ≡ high_watermark taken.now (reverse commits.now) }
 {
     let mut left = commits.len();
     let mut bounds = Bounds {
@@ -166,25 +159,25 @@ fn bounds_over(commits: &[Certified], taken: &Taken) -> Bounds
 
 /// The watermarks with one more commit, of this stamp.
 fn with_commit(bounds: Bounds, commit: &Certified, stamp: u64, taken: &Taken) -> Bounds
-    ensures low { result.low ≡ (if nat_lt taken.now.snapshot stamp && overlaps commit.now.writes taken.now.reads
+    ensures low { result.low ≡ (if counts_for_low stamp taken.now commit.now
         then min commit.now.low bounds.low else bounds.low) }
-    ensures high { result.high ≡ (if counts_for_high stamp taken.now.snapshot taken.now.reads taken.now.writes commit.now
+    ensures high { result.high ≡ (if counts_for_high stamp taken.now commit.now
         then max stamp bounds.high else bounds.high) }
 {
     let reads = taken.reads.as_slice();
     let writes = taken.writes.as_slice();
-    let has_written = have_common(commit.writes.as_slice(), reads);
-    let is_behind = taken.snapshot < stamp && has_written;
-    let counts = stamp <= taken.snapshot && has_written
-        || have_common(commit.writes.as_slice(), writes)
-        || have_common(commit.reads.as_slice(), writes);
+    let has_written = have_common(commit.taken.writes.as_slice(), reads);
+    let counts_for_low = taken.snapshot < stamp && has_written;
+    let counts_for_high = stamp <= taken.snapshot && has_written
+        || have_common(commit.taken.writes.as_slice(), writes)
+        || have_common(commit.taken.reads.as_slice(), writes);
     Bounds {
-        low: if is_behind {
+        low: if counts_for_low {
             commit.low.min(bounds.low)
         } else {
             bounds.low
         },
-        high: if counts {
+        high: if counts_for_high {
             stamp.max(bounds.high)
         } else {
             bounds.high
@@ -239,6 +232,7 @@ mod tests {
         assert!(rt; certifier.is_empty());
         for (place, (snapshot, reads, writes, low, high, by)) in commits.into_iter().enumerate() {
             let taken = taken(rt.alloc(), snapshot, reads, writes)?;
+            assert!(rt; certifier.oldest() <= taken.snapshot);
             let marks = certifier.watermarks(&taken);
             assert_eq!(rt; marks, Marks { low, high, by }, "at {place}");
             let stamp = certifier.admit(taken, marks)?;
@@ -260,6 +254,7 @@ mod tests {
         let mut certifier = Certifier::new(rt.alloc());
         for (snapshot, reads, writes) in commits {
             let taken = taken(rt.alloc(), snapshot, reads, writes)?;
+            assert!(rt; certifier.oldest() <= taken.snapshot);
             let marks = certifier.watermarks(&taken);
             certifier.admit(taken, marks)?;
         }
@@ -270,6 +265,7 @@ mod tests {
         ];
         for (snapshot, reads, writes, low, high, by) in violations {
             let taken = taken(rt.alloc(), snapshot, reads, writes)?;
+            assert!(rt; certifier.oldest() <= taken.snapshot);
             assert_eq!(rt;
                 certifier.watermarks(&taken),
                 Marks { low, high, by },

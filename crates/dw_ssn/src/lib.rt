@@ -6,4 +6,5 @@ mod certifier;
 mod objects;
 mod violations;
 
-pub use certifier::{Certifier, Marks, Taken};
+pub use certifier::{Certifier, Marks};
+pub use dw_journal::Taken;

@@ -1,14 +1,15 @@
 //! The object that a violation names.
-ghost use Rattle.std.specs.Prelude.{◌≡◌, ◌≤◌, ◌<◌, length, reverse, true, slice_get, option_and_then};
+ghost use Rattle.std.specs.Prelude.{◌≡◌, ◌≤◌, ◌<◌, length, reverse, true, slice_get, option_and_then, IfSome};
 ghost use Rattle.std.specs.List.{filter};
 ghost use Rattle.std.specs.Option.{option_map_or};
-ghost use Rattle.dw_journal.specs.Watermarks.{least_object, object_before, written_at_low};
+ghost use Rattle.dw_model.specs.Objects.{object_before};
+ghost use Rattle.dw_journal.specs.Watermarks.{least_object, written_at_low};
 
-use crate::objects::{contains, is_before};
+use crate::objects::contains;
 use dw_journal::Certified;
 use dw_model::Object;
 
-/// The place of the least object, of those read, that a commit behind the snapshot, of this low watermark, wrote. The
+/// The place of the least object, of those read, that a commit after the snapshot, of this low watermark, wrote. The
 /// commits stand with the oldest first.
 pub(crate) fn violated_place(
     commits: &[Certified],
@@ -16,7 +17,9 @@ pub(crate) fn violated_place(
     low: u64,
     reads: &[Object],
 ) -> Option<usize>
-    ensures { option_and_then (slice_get reads.now) result ≡ least_object (filter (written_at_low low snapshot (reverse commits.now)) reads.now) }
+    ensures least { option_and_then (slice_get reads.now) result
+        ≡ least_object (filter (written_at_low low snapshot (reverse commits.now)) reads.now) }
+    ensures within { IfSome result (λ place. place < length reads.now) }
 {
     let mut least = None;
     for (place, object) in reads.iter().enumerate() {
@@ -27,14 +30,14 @@ pub(crate) fn violated_place(
     least
 }
 
-/// Whether a commit behind the snapshot, of this low watermark, wrote the object.
+/// Whether a commit after the snapshot, of this low watermark, wrote the object.
 fn is_written_at(commits: &[Certified], snapshot: u64, low: u64, object: &Object) -> bool
     ensures { result ≡ written_at_low low snapshot (reverse commits.now) object.now }
 {
     let mut left = commits.len();
     while left as u64 > snapshot {
         let commit = &commits[left - 1];
-        if commit.low == low && contains(commit.writes.as_slice(), object) {
+        if commit.low == low && contains(commit.taken.writes.as_slice(), object) {
             return true;
         }
         left -= 1;
@@ -50,7 +53,7 @@ fn comes_first(object: &Object, objects: &[Object], place: Option<usize>) -> boo
         return true;
     };
     match objects.get(place) {
-        Some(other) => is_before(object, other),
+        Some(other) => object.is_before(other),
         None => true,
     }
 }

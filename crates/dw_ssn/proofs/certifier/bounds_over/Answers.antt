@@ -3,7 +3,7 @@ use Rattle.dw_ssn.proofs.Rest.{Marked-init, Marked-more, Marked-low, Marked-high
 use Rattle.dw_ssn.proofs.certifier.bounds_over.Goals as goal
 
 pub loop-left-init : goal.loop-left-init
-loop-left-init c = Marked-init c.args.commits.now c.args.taken.now.snapshot c.args.taken.now.reads c.args.taken.now.writes
+loop-left-init c = Marked-init c.args.commits.now c.args.taken.now
 
 pub loop-left-preserved : goal.loop-left-preserved
 loop-left-preserved c =
@@ -11,14 +11,14 @@ loop-left-preserved c =
     let left = c.loop-left.left in
     let more : left ≡ left - 1 + 1 = omega arith in
     let within : left - 1 < length c.args.commits.now = omega (arith, c.loop-left.invariant.within) in
-    Marked-more c.args.commits.now (left - 1) left c.index-commits-left.result taken.snapshot taken.reads taken.writes c.loop-left.bounds.low c.loop-left.bounds.high _ _ more within c.index-commits-left.is c.loop-left.invariant c.with_commit-bounds.ensures.low c.with_commit-bounds.ensures.high
+    Marked-more c.args.commits.now (left - 1) left c.index-commits-left.result taken c.loop-left.bounds.low c.loop-left.bounds.high _ _ more within c.index-commits-left.is c.loop-left.invariant c.with_commit-bounds.ensures.low c.with_commit-bounds.ensures.high
 
 pub returns-then-left-bounds-clause-low : goal.returns-then-left-bounds-clause-low
 returns-then-left-bounds-clause-low c =
     let taken = c.args.taken.now in
-    Marked-low c.args.commits.now c.loop-left.left c.loop-left.bounds.low c.loop-left.bounds.high taken.snapshot taken.reads taken.writes c.loop-left.invariant (omega arith)
+    Marked-low c.args.commits.now c.loop-left.left c.loop-left.bounds.low c.loop-left.bounds.high taken c.loop-left.invariant (omega arith)
 
 pub returns-then-left-bounds-clause-high : goal.returns-then-left-bounds-clause-high
 returns-then-left-bounds-clause-high c =
     let taken = c.args.taken.now in
-    Marked-high c.args.commits.now c.loop-left.left c.loop-left.bounds.low c.loop-left.bounds.high taken.snapshot taken.reads taken.writes c.loop-left.invariant (omega arith)
+    Marked-high c.args.commits.now c.loop-left.left c.loop-left.bounds.low c.loop-left.bounds.high taken c.loop-left.invariant (omega arith)

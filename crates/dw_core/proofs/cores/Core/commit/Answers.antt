@@ -1,111 +1,118 @@
-use Rattle.std.proofs.Common.{◌≡◌, ℕ, ◌+◌, ◌≤◌, [], ◌∷◌, ◌++◌, set, reverse, sym, ap, subst, ◌∙◌, arith}
-use Rattle.std.specs.Prelude.{Some, None}
+use Rattle.std.proofs.Common.{◌≡◌, ◌-◌, ◌<◌, ℕ, List, [], ◌∷◌, ◌++◌, length, set, reverse, sym, ap, subst, ◌∙◌, arith}
+use Rattle.std.specs.Prelude.{Option, Some, None}
 use Rattle.dw_journal.specs.declared.Event.{Event}
-use Rattle.dw_journal.specs.History.{IsSession}
+use Rattle.dw_journal.specs.Worlds.{IsSession}
+use Rattle.dw_journal.specs.History.{History, with_event}
 use Rattle.dw_journal.specs.Follows.{FollowsAfter}
-use Rattle.dw_core.specs.declared.sessions.Block.TheVariants as standing
-use Rattle.dw_core.specs.declared.sessions.Session.{Session}
-use Rattle.dw_core.specs.declared.sessions.Stage.TheVariants as stage
-use Rattle.dw_core.specs.Machine.{Machine, Comes, commit_in, number_due}
-use Rattle.dw_core.specs.Readers.{decision_of}
-use Rattle.dw_core.specs.Agree.{AgreesAt, owed_by}
-use Rattle.dw_core.proofs.Committing.{decision, names_reads, not_none, owes_one}
-use Rattle.dw_core.proofs.Stand.{agrees_at, found}
-use Rattle.dw_core.proofs.Steps.{has_room, newest_first, next_agrees, place_within, room_owed}
+use Rattle.dw_journal.specs.Legal.{IsNextEvent}
+use Rattle.dw_journal.specs.Turns.{number_due}
+use Rattle.dw_core.specs.declared.transactions.Transaction.{Transaction}
+use Rattle.dw_core.specs.Changes.{session_after}
+use Rattle.dw_core.specs.CoreInvariant.{HasNames}
+use Rattle.dw_core.specs.DueEvents.{commit_due, decision_of}
+use Rattle.dw_core.specs.Traces.{LeavesUnlessStamped}
+use Rattle.dw_core.proofs.Committing.{decided_alike, decided_calm, decision, leaves_none, not_none, oldest_kept, owes_one}
+use Rattle.dw_core.proofs.CoreSteps.{agrees_after, has_room, newest_first, room_owed, set_after}
+use Rattle.dw_core.proofs.KeptSessions.{found}
+use Rattle.dw_core.proofs.NextEvents.{still_unswept, still_unwanted}
+use Rattle.dw_core.proofs.NoLocks.{none_held}
 use Rattle.dw_core.proofs.cores.Core.commit.Goals as goal
 
 pub unreachable-requires : goal.unreachable-requires
 unreachable-requires c =
     let i = c.self.inside in
-    let older = reverse i.events.items in
+    let history : History = record { shape = i.shape; world = i.world; events = reverse i.events.items } in
     let session = c.args.session in
-    let kept = c.index_mut-kept.result.now in
-    let done = i.certifier.commits in
-    let machine : Machine = record { shape = i.shape; scripts = i.scripts; events = older } in
-    let is : IsSession i.scripts session = subst (λ (m : Machine). IsSession m.scripts session) (sym c.self.view_is) c.requires.session in
-    let agrees = agrees_at i.shape i.scripts older i.sessions.items done _ _ c.self.invariant session c.place_of.result kept is c.place_of.ensures c.index_mut-kept.ensures.value in
-    let k = number_due machine session in
-    let follows : FollowsAfter i.shape i.scripts older (commit_in machine session) = subst (λ (m : Machine). FollowsAfter m.shape m.scripts m.events (commit_in m session)) (sym c.self.view_is) c.requires.follows in
-    not_none machine session is.0 kept agrees k _ _ _ follows (sym (ap (λ (s : Session). s.transaction) c.replace-transaction.ensures.value) ∙ c.in_default.is)
+    let core = c.self.invariant in
+    let kept = c.index_mut.result.now in
+    let is : IsSession i.world session = subst (λ (h : History). IsSession h.world session) (sym c.self.view_is) c.requires.session in
+    let follows = subst (λ (h : History). FollowsAfter h (commit_due h session)) (sym c.self.view_is) c.requires.follows in
+    let there = found i.sessions.items c.place_of.result session kept c.place_of.ensures (omega (arith, c.place_of.ensures, core.number, is.0, is.1)) c.index_mut.ensures.value in
+    not_none history session is kept (core.each session kept is.0 there) (number_due history session) _ _ _ follows (sym c.take.ensures.value ∙ c.in_default.is)
 
 pub decide-decided-requires : goal.decide-decided-requires
 decide-decided-requires c =
     let i = c.self.inside in
-    let older = reverse i.events.items in
+    let history : History = record { shape = i.shape; world = i.world; events = reverse i.events.items } in
     let session = c.args.session in
-    let kept = c.index_mut-kept.result.now in
-    let done = i.certifier.commits in
-    let machine : Machine = record { shape = i.shape; scripts = i.scripts; events = older } in
-    let is : IsSession i.scripts session = subst (λ (m : Machine). IsSession m.scripts session) (sym c.self.view_is) c.requires.session in
-    let agrees = agrees_at i.shape i.scripts older i.sessions.items done _ _ c.self.invariant session c.place_of.result kept is c.place_of.ensures c.index_mut-kept.ensures.value in
-    let k = number_due machine session in
-    let follows : FollowsAfter i.shape i.scripts older (commit_in machine session) = subst (λ (m : Machine). FollowsAfter m.shape m.scripts m.events (commit_in m session)) (sym c.self.view_is) c.requires.follows in
-    let one = c.in-Some.transaction in
-    let one_is : kept.transaction ≡ Some one = sym (ap (λ (s : Session). s.transaction) c.replace-transaction.ensures.value) ∙ c.in-Some.is in
-    names_reads machine session is.0 kept agrees k _ _ _ follows one one_is done done c.self.invariant.certified_are
+    let core = c.self.invariant in
+    let kept = c.index_mut.result.now in
+    let one_is : kept.transaction ≡ Some c.in-Some.transaction = sym c.take.ensures.value ∙ c.in-Some.is in
+    let is : IsSession i.world session = subst (λ (h : History). IsSession h.world session) (sym c.self.view_is) c.requires.session in
+    let there = found i.sessions.items c.place_of.result session kept c.place_of.ensures (omega (arith, c.place_of.ensures, core.number, is.0, is.1)) c.index_mut.ensures.value in
+    let is_kept = core.each session kept is.0 there in
+    record {
+      names = subst HasNames one_is is_kept.names;
+      oldest = oldest_kept history session kept is_kept c.in-Some.transaction one_is i.certifier.oldest _ (core.snapshots session);
+    }
 
-pub append-requires : goal.append-requires
-append-requires c =
+pub put-requires-clause-room : goal.put-requires-clause-room
+put-requires-clause-room c =
     let i = c.self.inside in
-    let older = reverse i.events.items in
+    let history : History = record { shape = i.shape; world = i.world; events = reverse i.events.items } in
     let session = c.args.session in
-    let kept = c.index_mut-kept.result.now in
-    let done = i.certifier.commits in
-    let machine : Machine = record { shape = i.shape; scripts = i.scripts; events = older } in
-    let is : IsSession i.scripts session = subst (λ (m : Machine). IsSession m.scripts session) (sym c.self.view_is) c.requires.session in
-    let agrees = agrees_at i.shape i.scripts older i.sessions.items done _ _ c.self.invariant session c.place_of.result kept is c.place_of.ensures c.index_mut-kept.ensures.value in
-    let k = number_due machine session in
-    let follows : FollowsAfter i.shape i.scripts older (commit_in machine session) = subst (λ (m : Machine). FollowsAfter m.shape m.scripts m.events (commit_in m session)) (sym c.self.view_is) c.requires.follows in
-    let there = found i.sessions.items c.place_of.result session kept c.place_of.ensures (place_within i.shape i.scripts older i.sessions.items done _ _ c.self.invariant session is) c.index_mut-kept.ensures.value in
-    let owes = owes_one machine session is.0 kept agrees k _ _ _ follows in
-    has_room i.shape i.scripts older i.sessions.items done _ _ c.self.invariant session is kept there owes
+    let core = c.self.invariant in
+    let kept = c.index_mut.result.now in
+    let is : IsSession i.world session = subst (λ (h : History). IsSession h.world session) (sym c.self.view_is) c.requires.session in
+    let follows = subst (λ (h : History). FollowsAfter h (commit_due h session)) (sym c.self.view_is) c.requires.follows in
+    let there = found i.sessions.items c.place_of.result session kept c.place_of.ensures (omega (arith, c.place_of.ensures, core.number, is.0, is.1)) c.index_mut.ensures.value in
+    has_room history i.sessions.items i.certifier _ _ core session is kept there
+    (owes_one history session is kept (core.each session kept is.0 there) (number_due history session) _ _ _ follows)
 
 pub invariant_of-self : goal.invariant_of-self
 invariant_of-self c =
     let i = c.self.inside in
-    let older = reverse i.events.items in
+    let history : History = record { shape = i.shape; world = i.world; events = reverse i.events.items } in
     let session = c.args.session in
-    let kept = c.index_mut-kept.result.now in
-    let done = i.certifier.commits in
-    let machine : Machine = record { shape = i.shape; scripts = i.scripts; events = older } in
-    let is : IsSession i.scripts session = subst (λ (m : Machine). IsSession m.scripts session) (sym c.self.view_is) c.requires.session in
-    let agrees = agrees_at i.shape i.scripts older i.sessions.items done _ _ c.self.invariant session c.place_of.result kept is c.place_of.ensures c.index_mut-kept.ensures.value in
-    let k = number_due machine session in
-    let follows : FollowsAfter i.shape i.scripts older (commit_in machine session) = subst (λ (m : Machine). FollowsAfter m.shape m.scripts m.events (commit_in m session)) (sym c.self.view_is) c.requires.follows in
-    let one = c.in-Some.transaction in
-    let one_is : kept.transaction ≡ Some one = sym (ap (λ (s : Session). s.transaction) c.replace-transaction.ensures.value) ∙ c.in-Some.is in
-    let there = found i.sessions.items c.place_of.result session kept c.place_of.ensures (place_within i.shape i.scripts older i.sessions.items done _ _ c.self.invariant session is) c.index_mut-kept.ensures.value in
-    let owes = owes_one machine session is.0 kept agrees k _ _ _ follows in
+    let core = c.self.invariant in
+    let kept = c.index_mut.result.now in
+    let k = number_due history session in
     let result = c.decide-decided.result.0 in
-    let next = decision_of session k result in
-    let ok = decision machine session is.0 kept agrees k _ _ _ follows one one_is done c.decide-decided.new.certifier.commits c.self.invariant.certified_are result c.decide-decided.ensures.decides in
-    let statement_is : c.number_due-statement.result ≡ k = subst (λ (m : Machine). c.number_due-statement.result ≡ number_due m session) (sym c.self.view_is) c.number_due-statement.ensures in
-    let now = c.replace-transaction.new.dest in
-    let now_is : now ≡ record { taken = k; stage = stage.Between; block = standing.Outside; transaction = None } =
-    c.replace-transaction.ensures.after ∙ c.between.ensures ∙ ap (λ (n : ℕ). record { taken = n; stage = stage.Between; block = standing.Outside; transaction = None }) statement_is in
-    let moved = subst (AgreesAt i.shape i.scripts (next ∷ older) session) (sym now_is) ok.agrees_now in
-    let event_is : c.decide-decided.result.1 ≡ next = c.decide-decided.ensures.event ∙ ap (λ (n : ℕ). decision_of session n result) statement_is in
-    let newer = ap reverse (c.append.ensures.items ∙ ap (λ (event : Event). i.events.items ++ event ∷ []) event_is) ∙ newest_first i.events.items next in
-    let changed = ap (λ (n : ℕ). set i.sessions.items n now) c.place_of.ensures in
-    let less : owed_by now.stage now.block + 1 ≤ owed_by kept.stage kept.block = subst (λ (s : Session). owed_by s.stage s.block + 1 ≤ owed_by kept.stage kept.block) (sym now_is) (omega (arith, owes)) in
-    let room = room_owed i.shape i.scripts older i.sessions.items done _ _ c.self.invariant session is next now ok.of_it ok.comes.0 ok.comes.1 ok.calm moved kept _ _ _ there changed c.append.ensures.len c.append.ensures.capacity less in
-    next_agrees i.shape i.scripts older i.sessions.items done _ _ c.self.invariant session is next now ok.of_it ok.comes.0 ok.comes.1 ok.calm moved _ _ _ _ _ newer changed ok.certified_now room
+    let event = decision_of session k result in
+    let one_is : kept.transaction ≡ Some c.in-Some.transaction = sym c.take.ensures.value ∙ c.in-Some.is in
+    let is : IsSession i.world session = subst (λ (h : History). IsSession h.world session) (sym c.self.view_is) c.requires.session in
+    let follows = subst (λ (h : History). FollowsAfter h (commit_due h session)) (sym c.self.view_is) c.requires.follows in
+    let within : c.place_of.result < length i.sessions.items = omega (arith, c.place_of.ensures, core.number, is.0, is.1) in
+    let there = found i.sessions.items c.place_of.result session kept c.place_of.ensures within c.index_mut.ensures.value in
+    let is_kept = core.each session kept is.0 there in
+    let ok = decision history session is kept is_kept k _ _ _ follows c.in-Some.transaction one_is i.certifier c.decide-decided.new.certifier core.certified_are result c.decide-decided.ensures.decides in
+    let event_is : c.decide-decided.result.1 ≡ event = subst (λ (h : History). c.decide-decided.result.1 ≡ decision_of session (number_due h session) result) (sym c.self.view_is)
+    (c.decide-decided.ensures.event ∙ ap (λ (n : ℕ). decision_of session n result) c.number_due-statement.ensures) in
+    let changed = set_after (session_after i.world c.decide-decided.result.1) i.sessions.items _ c.place_of.result session _ c.place_of.ensures within c.put.ensures.kept
+    ∙ ap (λ (t : Option Transaction). set i.sessions.items (session - 1) (session_after i.world c.decide-decided.result.1 (record { taken = kept.taken; stage = kept.stage; block = kept.block; transaction = t }))) c.take.ensures.after
+    ∙ ap (λ (e : Event). set i.sessions.items (session - 1) (session_after i.world e (record { taken = kept.taken; stage = kept.stage; block = kept.block; transaction = None }))) event_is
+    ∙ ap (set i.sessions.items (session - 1)) (decided_alike history session k result kept) in
+    let newer = ap reverse (c.put.ensures.items ∙ ap (λ (e : Event). i.events.items ++ e ∷ []) event_is) ∙ newest_first i.events.items event in
+    let owes = owes_one history session is kept is_kept k _ _ _ follows in
+    let room = room_owed history i.sessions.items i.certifier _ _ core session is kept (session_after i.world event kept) _ _ _ there changed c.put.ensures.len c.put.ensures.capacity (omega (arith, owes, ok.owes_none)) in
+    agrees_after history i.sessions.items i.certifier _ _ core session is event ok.of_it ok.next (decided_calm history session k result) (session_after i.world event kept) ok.is_kept_now _ _ _ _ _ newer changed ok.certified_now ok.oldest_now room
 
 pub returns-clause-comes : goal.returns-clause-comes
 returns-clause-comes c =
     let i = c.self.inside in
-    let older = reverse i.events.items in
+    let history : History = record { shape = i.shape; world = i.world; events = reverse i.events.items } in
     let session = c.args.session in
-    let kept = c.index_mut-kept.result.now in
-    let done = i.certifier.commits in
-    let machine : Machine = record { shape = i.shape; scripts = i.scripts; events = older } in
-    let is : IsSession i.scripts session = subst (λ (m : Machine). IsSession m.scripts session) (sym c.self.view_is) c.requires.session in
-    let agrees = agrees_at i.shape i.scripts older i.sessions.items done _ _ c.self.invariant session c.place_of.result kept is c.place_of.ensures c.index_mut-kept.ensures.value in
-    let k = number_due machine session in
-    let follows : FollowsAfter i.shape i.scripts older (commit_in machine session) = subst (λ (m : Machine). FollowsAfter m.shape m.scripts m.events (commit_in m session)) (sym c.self.view_is) c.requires.follows in
-    let one = c.in-Some.transaction in
-    let one_is : kept.transaction ≡ Some one = sym (ap (λ (s : Session). s.transaction) c.replace-transaction.ensures.value) ∙ c.in-Some.is in
+    let core = c.self.invariant in
+    let kept = c.index_mut.result.now in
     let result = c.decide-decided.result.0 in
-    let next = decision_of session k result in
-    let ok = decision machine session is.0 kept agrees k _ _ _ follows one one_is done c.decide-decided.new.certifier.commits c.self.invariant.certified_are result c.decide-decided.ensures.decides in
-    subst (λ (m : Machine). Comes m (decision_of session (number_due m session) result)) c.self.view_is ok.comes
+    let one_is : kept.transaction ≡ Some c.in-Some.transaction = sym c.take.ensures.value ∙ c.in-Some.is in
+    let is : IsSession i.world session = subst (λ (h : History). IsSession h.world session) (sym c.self.view_is) c.requires.session in
+    let follows = subst (λ (h : History). FollowsAfter h (commit_due h session)) (sym c.self.view_is) c.requires.follows in
+    let there = found i.sessions.items c.place_of.result session kept c.place_of.ensures (omega (arith, c.place_of.ensures, core.number, is.0, is.1)) c.index_mut.ensures.value in
+    let ok = decision history session is kept (core.each session kept is.0 there) (number_due history session) _ _ _ follows c.in-Some.transaction one_is i.certifier c.decide-decided.new.certifier core.certified_are result c.decide-decided.ensures.decides in
+    subst (λ (h : History). IsNextEvent h (decision_of session (number_due h session) result)) c.self.view_is ok.next
+
+pub returns-clause-trace : goal.returns-clause-trace
+returns-clause-trace c =
+    let i = c.self.inside in
+    let history : History = record { shape = i.shape; world = i.world; events = reverse i.events.items } in
+    let session = c.args.session in
+    let core = c.self.invariant in
+    let k = c.number_due-statement.result in
+    let result = c.decide-decided.result.0 in
+    let event = decision_of session k result in
+    let calm = decided_calm history session k result in
+    let held = none_held (with_event history event) (λ other. still_unwanted history event other calm (core.unwanted other)) (λ other. still_unswept history event other calm (core.unswept other)) session in
+    let newer = ap reverse (c.put.ensures.items ∙ ap (λ (e : Event). i.events.items ++ e ∷ []) c.decide-decided.ensures.event) ∙ newest_first i.events.items event in
+    subst (λ (h : History). LeavesUnlessStamped result h session (record { shape = i.shape; world = i.world; events = reverse c.put.new.events.items })) c.self.view_is
+    (subst (λ (events : List Event). LeavesUnlessStamped result history session (record { shape = i.shape; world = i.world; events = events })) (sym newer) (leaves_none history session k result held))

@@ -1,19 +1,19 @@
 use Rattle.std.proofs.Common.{[], ◌∷◌, length, length-append, sym, ap, subst, arith}
-use Rattle.dw_core.proofs.Fresh.{AllFresh, all_agree, one_more}
+use Rattle.dw_core.proofs.NewCores.{AreFresh, agrees_new, one_more}
 use Rattle.dw_core.proofs.cores.Core.new.Goals as goal
 
 pub loop-init : goal.loop-init
-loop-init c = (ap length c.new-sessions.ensures.items, subst AllFresh (sym c.new-sessions.ensures.items) tt)
+loop-init c = (ap length c.new-sessions.ensures.items, subst AreFresh (sym c.new-sessions.ensures.items) tt)
 
 pub loop-preserved : goal.loop-preserved
 loop-preserved c =
     let items = c.in_ok-push.ensures.items in
-    let one = c.between.ensures in (
-      omega (arith, ap length items, length-append c.loop.sessions.items (c.between.result ∷ []), c.loop.invariant.0),
-      subst AllFresh (sym items) (one_more c.loop.sessions.items c.between.result c.loop.invariant.1 one),
+    let one = c.fresh.ensures in (
+      omega (arith, ap length items, length-append c.loop.sessions.items (c.fresh.result ∷ []), c.loop.invariant.0),
+      subst AreFresh (sym items) (one_more c.loop.sessions.items c.fresh.result c.loop.invariant.1 one),
     )
 
 pub invariant_of-result : goal.invariant_of-result
 invariant_of-result c =
-    all_agree c.args.shape c.args.scripts c.new.result.items c.loop.sessions.items c.new-2.result.commits _ _ c.new.ensures.items c.loop.invariant.1 c.new-2.ensures.commits c.new.ensures.len
+    agrees_new c.args.shape c.args.world c.new.result.items c.loop.sessions.items c.new-2.result _ _ c.new.ensures.items c.loop.invariant.1 c.new-2.ensures.oldest c.new-2.ensures.commits c.new.ensures.len
     (omega (arith, c.loop.invariant.0, c.loop-test.false, c.requires.sessions)) c.requires.sessions c.requires.short
