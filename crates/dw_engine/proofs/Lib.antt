@@ -1,11 +1,8 @@
-pub mod Progress
-pub mod Stepwise
-pub mod Dues
-pub mod Views
-pub mod Installs
-pub mod Going
-pub mod Results
-pub mod Seeing
-pub mod Deciding
-pub mod Answering
-pub mod Starting
+mod Results
+mod DueTurns
+mod NextEvents
+pub mod StepLemmas
+mod ViewLemmas
+mod Replies
+mod Commits
+pub mod ScriptLemmas

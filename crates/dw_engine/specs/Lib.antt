@@ -1,7 +1,4 @@
-pub mod Run
-pub mod Progress
 pub mod Steps
-pub mod Stands
-pub mod Installed
+pub mod EngineInvariant
 pub mod Replies
-pub mod Goes
+pub mod NextStatements

@@ -1,163 +1,157 @@
 //! The database that a commit leaves, built before the commit is decided.
-ghost use Rattle.std.specs.Prelude.{◌≡◌, ◌++◌, List as Items, IfOk, OnOk, IfSome};
-ghost use Rattle.dw_model.specs.declared.statements.Statement.{Statement};
-ghost use Rattle.dw_model.specs.declared.tables.Object.TheVariants.{Def, Rows};
-ghost use Rattle.dw_model.specs.Databases.{Tables, IsAscending, def_of, rows_of};
+ghost use Rattle.std.specs.Prelude.{◌≡◌, ◌++◌, ◌≤◌, length, IfOk, OnOk, IsTrue};
+ghost use Rattle.dw_value.specs.Values.{row_cmp};
+ghost use Rattle.dw_value.specs.Sorted.{add_sorted};
+ghost use Rattle.dw_model.specs.declared.objects.Object.TheVariants.{Def, Rows};
+ghost use Rattle.dw_model.specs.Databases.{def_of, rows_of};
 ghost use Rattle.dw_model.specs.Objects.{is_among, same_object};
-ghost use Rattle.dw_journal.specs.Transactions.{reads_in, writes_in};
-ghost use Rattle.dw_journal.specs.Contents.{after_commit, table_of};
-ghost use Rattle.dw_engine.specs.Stands.{IsViewOf, rows_under};
-ghost use Rattle.dw_engine.specs.Installed.{def_left, rows_left, table_left, with_table_or_none};
+ghost use Rattle.dw_journal.specs.Contents.{Effect, added_by, after_commit, def_after, rows_after, with_table};
 
-use crate::view::{Inserted, View};
-use dw_model::{Database, Object, Table, TableDef};
-use dw_ssn::Taken;
+use crate::views::View;
+use dw_journal::Taken;
+use dw_model::{Change, Column, Database, Object, Table};
 use dw_value::{List, Row, Text, add_rows};
 use std::alloc::{AllocError, Global};
 
-/// The database once a transaction with this view and these read and written objects is committed on `database`.
+/// The database once a transaction with this view, which took this, is committed on `database`. A table that is then as
+/// in the view or as in `database` is shared with it; of any other one the rows are copied once, with those added that
+/// the transaction's changes add.
 pub(crate) fn install(
-    alloc: Global,
     view: &View,
     taken: &Taken,
     database: &Database,
 ) -> Result<Database, AllocError>
-    ensures { IfOk result (λ next. (statements : Items Statement) (start : Tables) → IsViewOf statements start view.now →
-        taken.now.reads ≡ reads_in statements → taken.now.writes ≡ writes_in statements →
-        next ≡ after_commit statements start database.now) }
+    ensures { IfOk result (λ next. next ≡ after_commit
+        (record { taken = taken.now; changes = view.now.changes; view = view.now.database }) database.now) }
 {
     let mut next = database.copy()?;
     let writes = taken.writes.as_slice();
     for place in (0..writes.len()).rev() {
-        let name = name_of(&writes[place]);
-        let table = table_left(alloc, view, taken, database, name)?;
-        place_table(&mut next, name, table)?;
+        install_table(view, taken, database, writes[place].table(), &mut next)?;
     }
     Ok(next)
 }
 
-/// The name of the table of an object.
-fn name_of(object: &Object) -> &Text
-    ensures { result.now ≡ table_of object.now }
-{
-    match object {
-        Object::Def(name) | Object::Rows(name) => name,
-    }
-}
-
-/// Puts this table under the name, or none.
-fn place_table(database: &mut Database, name: &Text, table: Option<Table>) -> Result<(), AllocError>
-    requires { IfSome table (λ table. IsAscending table.rows) }
-    ensures { OnOk result (database.new ≡ with_table_or_none name.now table database.old) }
-{
-    match table {
-        Some(table) => database.put(name.copy()?, table),
-        None => {
-            database.remove(name);
-            Ok(())
-        }
-    }
-}
-
-/// The table that the transaction leaves under a name, if it leaves one.
-fn table_left(
-    alloc: Global,
+// Puts the table of a name into the next database as the transaction leaves it.
+fn install_table(
     view: &View,
     taken: &Taken,
-    database: &Database,
+    before: &Database,
     name: &Text,
-) -> Result<Option<Table>, AllocError>
-    ensures table { IfOk result (λ table. table ≡ table_left view.now taken.now database.now name.now) }
-    ensures ascending { IfOk result (λ table. IfSome table (λ table. IsAscending table.rows)) }
+    next: &mut Database,
+) -> Result<(), AllocError>
+    ensures { let done : Effect = record { taken = taken.now; changes = view.now.changes; view = view.now.database } in
+        OnOk result (next.new ≡ with_table name.now
+        (def_after done before.now name.now) (rows_after done before.now name.now) next.old) }
 {
-    match def_left(view, taken, database, name)? {
-        Some(def) => {
-            let rows = rows_left(alloc, view, taken, database, name)?;
-            Ok(Some(Table { def, rows }))
-        }
-        None => Ok(None),
-    }
-}
-
-/// The definition that the transaction leaves under a name.
-fn def_left(
-    view: &View,
-    taken: &Taken,
-    database: &Database,
-    name: &Text,
-) -> Result<Option<TableDef>, AllocError>
-    ensures { IfOk result (λ def. def ≡ def_left view.now taken.now database.now name.now) }
-{
-    if has_def(taken.writes.as_slice(), name) {
-        def_in(&view.database, name)
+    let alloc = view.changes.allocator();
+    let defs = if has_def(taken.writes.as_slice(), name) {
+        &view.database
     } else {
-        def_in(database, name)
-    }
-}
-
-/// The rows that the transaction leaves under a name.
-fn rows_left(
-    alloc: Global,
-    view: &View,
-    taken: &Taken,
-    database: &Database,
-    name: &Text,
-) -> Result<List<Row>, AllocError>
-    ensures rows { IfOk result (λ rows. rows ≡ rows_left view.now taken.now database.now name.now) }
-    ensures ascending { IfOk result IsAscending }
-{
+        before
+    };
     if !has_rows(taken.writes.as_slice(), name) {
-        return rows_in(alloc, database, name);
+        return place_table(alloc, defs, before, name, next);
     }
     if has_rows(taken.reads.as_slice(), name) {
-        return rows_in(alloc, &view.database, name);
+        return place_table(alloc, defs, &view.database, name, next);
     }
-    let inserted = inserted_under(alloc, view.inserted.as_slice(), name)?;
-    add_rows(rows_in(alloc, database, name)?, inserted)
+    let added = rows_added(alloc, view.changes.as_slice(), name)?;
+    build_table(defs, before, added, name, next)
 }
 
-/// The definition of the table of a name, if there is one.
-fn def_in(database: &Database, name: &Text) -> Result<Option<TableDef>, AllocError>
-    ensures { IfOk result (λ def. def ≡ def_of database.now name.now) }
-{
-    match database.get(name) {
-        Some(table) => Ok(Some(table.def.copy()?)),
-        None => Ok(None),
-    }
-}
-
-/// The rows of the table of a name, with no row where there is none.
-fn rows_in(alloc: Global, database: &Database, name: &Text) -> Result<List<Row>, AllocError>
-    ensures rows { IfOk result (λ rows. rows ≡ rows_of database.now name.now) }
-    ensures ascending { IfOk result IsAscending }
-{
-    match database.get(name) {
-        Some(table) => {
-            let Table { def: _, rows } = table.copy()?;
-            Ok(rows)
-        }
-        None => Ok(List::new(alloc)),
-    }
-}
-
-/// The rows that were inserted under a name, in order.
-fn inserted_under(
+// Puts a table under a name that has its definition from one database and its rows from another, or none where the
+// first one has none. Where the two define it alike it is shared, and else copied.
+fn place_table(
     alloc: Global,
-    inserted: &[Inserted],
+    defs: &Database,
+    rows: &Database,
     name: &Text,
-) -> Result<List<Row>, AllocError>
-    ensures { IfOk result (λ rows. rows ≡ rows_under inserted.now name.now) }
+    next: &mut Database,
+) -> Result<(), AllocError>
+    ensures { OnOk result
+        (next.new ≡ with_table name.now (def_of defs.now name.now) (rows_of rows.now name.now) next.old) }
+{
+    if are_defined_alike(defs, rows, name) {
+        return next.share(name, rows);
+    }
+    build_table(defs, rows, List::new(alloc), name, next)
+}
+
+// Puts a table under a name that has its definition from one database and from another copies of its rows, with these
+// added, or none where the first one has none.
+fn build_table(
+    defs: &Database,
+    rows: &Database,
+    added: List<Row>,
+    name: &Text,
+    next: &mut Database,
+) -> Result<(), AllocError>
+    ensures { OnOk result (next.new ≡ with_table name.now (def_of defs.now name.now)
+        (add_sorted row_cmp added (rows_of rows.now name.now)) next.old) }
+{
+    let Some(table) = defs.get(name) else {
+        next.remove(name);
+        return Ok(());
+    };
+    let def = table.def.copy()?;
+    let kept = match rows.get(name) {
+        Some(table) => table.rows.copy()?,
+        None => List::new(added.allocator()),
+    };
+    let rows = add_rows(kept, added)?;
+    next.put(name.copy()?, Table { def, rows })
+}
+
+// Whether two databases have tables of one definition under a name, or both none.
+fn are_defined_alike(a: &Database, b: &Database, name: &Text) -> bool
+    ensures { IsTrue result → def_of a.now name.now ≡ def_of b.now name.now }
+{
+    match (a.get(name), b.get(name)) {
+        (Some(a), Some(b)) => are_alike(a.def.columns.as_slice(), b.def.columns.as_slice()),
+        (None, None) => true,
+        (Some(_), None) | (None, Some(_)) => false,
+    }
+}
+
+// Whether these are the same columns in the same order.
+fn are_alike(a: &[Column], b: &[Column]) -> bool
+    ensures { IsTrue result → a.now ≡ b.now }
+{
+    if a.len() != b.len() {
+        return false;
+    }
+    for place in 0..a.len() {
+        if !is_alike(&a[place], &b[place]) {
+            return false;
+        }
+    }
+    true
+}
+
+// Whether two columns have the same name and kind.
+fn is_alike(a: &Column, b: &Column) -> bool
+    ensures { IsTrue result → a.now ≡ b.now }
+{
+    a.name == b.name && a.kind == b.kind
+}
+
+// Copies of the rows that changes add to the table of a name, in order.
+fn rows_added(alloc: Global, changes: &[Change], name: &Text) -> Result<List<Row>, AllocError>
+    ensures { IfOk result (λ rows. rows ≡ added_by changes.now name.now) }
 {
     let mut rows = List::new(alloc);
-    for note in inserted {
-        if name == &note.table {
-            add_copies(&mut rows, note.rows.as_slice())?;
+    for change in changes {
+        if let Change::Alters { table, added, .. } = change {
+            if name == table {
+                add_copies(&mut rows, added.as_slice())?;
+            }
         }
     }
     Ok(rows)
 }
 
-/// Puts copies of these rows behind the others.
+// Puts copies of these rows after the others.
 fn add_copies(rows: &mut List<Row>, more: &[Row]) -> Result<(), AllocError>
     ensures { OnOk result (rows.new ≡ rows.old ++ more.now) }
 {
@@ -167,18 +161,47 @@ fn add_copies(rows: &mut List<Row>, more: &[Row]) -> Result<(), AllocError>
     Ok(())
 }
 
-/// Whether the definition of the table of a name is among these objects.
+// Whether the definition of the table of a name is among these objects. Where they ascend and it is, it is found by
+// binary search, and else all of them are gone through.
 fn has_def(objects: &[Object], name: &Text) -> bool
     ensures { result ≡ is_among (Def name.now) objects.now }
 {
+    if is_def_at(objects, place_of(objects, name), name) {
+        return true;
+    }
     objects.iter().any(|object| is_def(object, name))
 }
 
-/// Whether the rows of the table of a name are among these objects.
+// Whether the rows of the table of a name are among these objects, found in the same way.
 fn has_rows(objects: &[Object], name: &Text) -> bool
     ensures { result ≡ is_among (Rows name.now) objects.now }
 {
+    let place = place_of(objects, name);
+    if is_rows_at(objects, place, name) || is_rows_at(objects, place + 1, name) {
+        return true;
+    }
     objects.iter().any(|object| is_rows(object, name))
+}
+
+// How many of these objects are of tables whose names come before this one, where the objects ascend.
+fn place_of(objects: &[Object], name: &Text) -> usize
+    ensures { result ≤ length objects.now }
+{
+    objects.partition_point(|object| object.table().as_bytes().cmp(name.as_bytes()).is_lt())
+}
+
+// Whether the object at this place is the definition of the table of this name.
+fn is_def_at(objects: &[Object], place: usize, name: &Text) -> bool
+    ensures { IsTrue result → IsTrue (is_among (Def name.now) objects.now) }
+{
+    place < objects.len() && is_def(&objects[place], name)
+}
+
+// Whether the object at this place is the rows of the table of this name.
+fn is_rows_at(objects: &[Object], place: usize, name: &Text) -> bool
+    ensures { IsTrue result → IsTrue (is_among (Rows name.now) objects.now) }
+{
+    place < objects.len() && is_rows(&objects[place], name)
 }
 
 fn is_def(object: &Object, name: &Text) -> bool
@@ -196,5 +219,123 @@ fn is_rows(object: &Object, name: &Text) -> bool
     match object {
         Object::Rows(other) => name == other,
         Object::Def(_) => false,
+    }
+}
+
+#[cfg(test)]
+mod tests {
+    use super::install;
+    use crate::views::View;
+    use crate::work::{Replied, reply};
+    use dw_journal::Taken;
+    use dw_model::{ColumnSpec, Database, FileMap, Object, Statement, TableSpec};
+    use dw_value::{Kind, List, Row, Text, Value};
+    use std::alloc::{AllocError, Global};
+    use std::test::Fail;
+
+    // What a transaction does on its snapshot, the database that it is committed on, what it reads and writes, and what
+    // becomes of the table `t`: its column and its rows.
+    const COMMITS: &str = "=>create t x,insert t 1=>=>d t r t=>d t r t=>x 1
+create t x,create u x=>insert t 2,insert u 9,insert t 1=>create t x,insert t 5,insert t 1=>d t=>r t=>x 1 1 2 5
+create t x=>insert t 2=>=>d t=>r t=>none
+create t x,insert t 1=>=>create t y,insert t 5=>d t=>d t=>x 5
+create t x,insert t 1=>insert t 2=>create t x,insert t 5=>d t r t=>r t=>x 1 2
+create t x,insert t 1=>insert t 2=>create t y,insert t 5=>d t r t=>r t=>y 1 2
+=>=>create t y,insert t 5=>=>d t=>none
+create t x,insert t 1=>=>create t y,insert t 5=>r t=>=>y 5";
+
+    fn statement(alloc: Global, text: &str) -> Result<Statement, AllocError> {
+        let mut words = text.split_whitespace();
+        let form = words.next().unwrap_or("");
+        let name = Text::from_str(alloc, words.next().unwrap_or(""))?;
+        let word = words.next().unwrap_or("");
+        if form == "create" {
+            let mut columns = List::new(alloc);
+            columns.push(ColumnSpec {
+                name: Text::from_str(alloc, word)?,
+                kind: Kind::Int,
+            })?;
+            return Ok(Statement::Create {
+                spec: TableSpec { name, columns },
+            });
+        }
+        let mut values = List::new(alloc);
+        values.push(Value::Number(word.parse::<i128>().unwrap_or(0)))?;
+        let mut rows = List::new(alloc);
+        rows.push(Row { values })?;
+        Ok(Statement::Insert { table: name, rows })
+    }
+
+    // The view after these statements, none of which is refused.
+    fn view_of(alloc: Global, text: &str, database: Database) -> Result<View, AllocError> {
+        let files = FileMap::new(alloc);
+        let changes = List::new(alloc);
+        let mut view = View { database, changes };
+        for part in text.split(',') {
+            if part.is_empty() {
+                continue;
+            }
+            let statement = statement(alloc, part)?;
+            view = match reply(alloc, &statement, &files, view)? {
+                Replied::Answered { view, .. } => view,
+                Replied::Refused(_) => {
+                    let database = Database::new(alloc);
+                    let changes = List::new(alloc);
+                    View { database, changes }
+                }
+            };
+        }
+        Ok(view)
+    }
+
+    fn objects(alloc: Global, text: &str) -> Result<List<Object>, AllocError> {
+        let mut objects = List::new(alloc);
+        let mut words = text.split_whitespace();
+        while let Some(form) = words.next() {
+            let name = Text::from_str(alloc, words.next().unwrap_or(""))?;
+            objects.push(if form == "d" {
+                Object::Def(name)
+            } else {
+                Object::Rows(name)
+            })?;
+        }
+        Ok(objects)
+    }
+
+    // The first column of the table `t`, and the first value of each of its rows.
+    fn shown(alloc: Global, database: &Database) -> Result<String, AllocError> {
+        let Some(table) = database.get(&Text::from_str(alloc, "t")?) else {
+            return String::from_str(alloc, "none");
+        };
+        let mut text = String::new(alloc);
+        for column in table.def.columns.as_slice() {
+            text.push_str(column.name.as_str())?;
+        }
+        for row in table.rows.as_slice() {
+            if let Some(Value::Number(number)) = row.values.get(0) {
+                text.push_str(format!(in alloc; " {number}")?.as_str())?;
+            }
+        }
+        Ok(text)
+    }
+
+    #[test]
+    fn commits_leave_tables(rt: HostRuntime) -> Result<(), Fail> {
+        let alloc = rt.alloc();
+        for line in COMMITS.lines() {
+            let mut parts = line.split("=>");
+            let snapshot = view_of(alloc, parts.next().unwrap_or(""), Database::new(alloc))?;
+            let view = view_of(alloc, parts.next().unwrap_or(""), snapshot.database)?;
+            let before = view_of(alloc, parts.next().unwrap_or(""), Database::new(alloc))?;
+            let taken = Taken {
+                snapshot: 0,
+                reads: objects(alloc, parts.next().unwrap_or(""))?,
+                writes: objects(alloc, parts.next().unwrap_or(""))?,
+            };
+            let next = install(&view, &taken, &before.database)?;
+            let wanted = parts.next().unwrap_or("");
+            assert_eq!(rt; shown(alloc, &next)?.as_str(), wanted, "{line}");
+        }
+        Ok(())
     }
 }

@@ -1,4 +1,4 @@
-//! Scripts driven side by side, each by a session of its own: a schedule says whose step comes next.
+//! What scripts are run on: an engine does one step of a session at a time.
 //!
 //! Every step appends one event to the journal, or none where the session's script is at its end.
 #![tactic(auto)]
@@ -6,17 +6,16 @@
 mod answer;
 mod blocks;
 mod commit;
-mod due;
-mod engine;
+mod demands;
+mod engines;
 mod install;
 mod opening;
-mod rounds;
-mod run;
-mod step;
-mod view;
+mod steps;
+mod views;
 mod work;
 
-pub use run::{Ran, run_scripts};
+pub use dw_core::Next;
+pub use engines::{Engine, Ran};
 
 #[cfg(test)]
 mod tests;

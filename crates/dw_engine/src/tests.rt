@@ -1,25 +1,25 @@
-//! Scripts driven side by side, with ample memory.
-ghost use Rattle.std.specs.Prelude.{◌≡◌, ◌<◌, ◌^◌, ℕ, List as Items, Some, length, slice_get, IsTrue};
+//! Scripts run side by side, with ample memory.
+ghost use Rattle.std.specs.Prelude.{◌≡◌, ◌<◌, ◌^◌, ℕ, List as Items, Some, length, slice_get, IsTrue, OnOk};
 ghost use Rattle.dw_model.specs.declared.statements.Statement.TheVariants as form;
 ghost use Rattle.dw_journal.specs.declared.Given.TheVariants.{Read};
-ghost use Rattle.dw_engine.specs.Run.{AreShort, HaveNoVacuum};
+ghost use Rattle.dw_journal.specs.Worlds.{AreShort, session_count};
+ghost use Rattle.dw_engine.specs.EngineInvariant.{HaveNoVacuum};
 
-use crate::{Ran, run_scripts};
-use dw_journal::{Event, Given};
-use dw_model::{Answer, ColumnSpec, Object, Query, Refusal, Statement, TableSpec};
-use dw_script::read_schedule;
+use crate::{Engine, Next, Ran};
+use dw_journal::{Event, Given, Shape, World};
+use dw_model::{Answer, ColumnSpec, FileMap, Object, Query, Refusal, Statement, TableSpec};
 use dw_value::{Kind, List, Row, Text, Value};
 use std::alloc::{AllocError, Global};
 use std::test::Fail;
 
-/// Scripts, one on each line; a schedule; some events of the run, each behind its number; and tables with the number of
-/// their rows.
+/// Scripts, one on each line; a schedule, which is a list of sessions that take a step each, until the sessions take
+/// turns; some events of the run, each after its number; and tables with the number of their rows.
 const RUNS: [(&str, &str, &str, &str); 9] = [
     // Each of two sessions reads what the other writes: the second commit is a violation.
     (
         "create a; create b; begin; select a; insert b 1; commit
 begin; select b; insert a 1; commit",
-        "1*9 2*3 1*2 2*2 1 2",
+        "111111111222112212",
         "14 answer 1 5
 17 commit 1 6 3 3 2
 18 violation 2 4 3 3 rows b
@@ -28,11 +28,11 @@ begin; select b; insert a 1; commit",
         "a 0
 b 1",
     ),
-    // A reader that commits behind a writer of what it read comes before it in serial order.
+    // A reader that commits after a writer of what it read comes before it in serial order.
     (
         "create t; create u; begin; select t; commit
 insert t 7",
-        "1*9 2*3 1",
+        "1111111112221",
         "8 open 1 4 2
 12 commit 2 1 3 3 1
 13 commit 1 5 4 3 1",
@@ -43,7 +43,7 @@ u 0",
     (
         "create t; create u; begin; select u; insert t 1; commit
 begin; select u; insert t 2; commit",
-        "1*9 2*3 1*3 2*3",
+        "111111111222111222",
         "15 commit 1 6 3 3 2
 18 commit 2 4 4 4 3",
         "t 2
@@ -54,7 +54,7 @@ u 0",
         "create x; create y; create z; insert x 1
 begin; select x; insert y 1; commit
 insert z 1; begin; select y; commit",
-        "1*9 2*3 1*3 3*6 2*3 3",
+        "1111111112221113333332223",
         "3 commit 1 1 1 1 0
 6 commit 1 2 2 2 0
 9 commit 1 3 3 3 0
@@ -105,7 +105,7 @@ z 1",
     (
         "create t; begin; select t; insert t 1; select t; rollback; select t
 insert t 2",
-        "1*6 2*3 1*2 1*2",
+        "1111112221111",
         "6 rows 1 3 0
 9 commit 2 1 2 2 1
 13 rows 1 5 1
@@ -194,7 +194,8 @@ fn scripts(alloc: Global, text: &str) -> Result<List<List<Given>>, AllocError> {
 /// Whether a script is short and sweeps no table.
 fn is_fit(script: &[Given]) -> bool
     ensures short { IsTrue result → length script.now < 2 ^ 32 }
-    ensures no_vacuum { IsTrue result → (place : ℕ) (table : Items ℕ) → slice_get script.now place ≡ Some (Read (form.Vacuum table)) → ⊥ }
+    ensures no_vacuum { IsTrue result → (place : ℕ) (table : Items ℕ) →
+        slice_get script.now place ≡ Some (Read (form.Vacuum table)) → ⊥ }
 {
     for given in script {
         if matches!(given, Given::Read(Statement::Vacuum { .. })) {
@@ -205,11 +206,11 @@ fn is_fit(script: &[Given]) -> bool
 }
 
 /// Whether all scripts are.
-fn are_fit(scripts: &[List<Given>]) -> bool
-    ensures short { IsTrue result → AreShort scripts.now }
-    ensures no_vacuum { IsTrue result → HaveNoVacuum scripts.now }
+fn are_fit(world: &World) -> bool
+    ensures short { IsTrue result → AreShort world.now.scripts }
+    ensures no_vacuum { IsTrue result → HaveNoVacuum world.now }
 {
-    for script in scripts {
+    for script in world.scripts.as_slice() {
         if !is_fit(script.as_slice()) {
             return false;
         }
@@ -217,16 +218,62 @@ fn are_fit(scripts: &[List<Given>]) -> bool
     true
 }
 
-fn run(alloc: Global, text: &str, moves: &str) -> Result<Ran, AllocError> {
-    let scripts = scripts(alloc, text)?;
-    let sessions = scripts.len();
-    if sessions > 64 || !are_fit(scripts.as_slice()) {
+/// One step of a session, if there is such a session, and what is due of it then.
+fn step_of(engine: &mut Engine, sessions: u32, session: u32) -> Result<Next, AllocError>
+    requires { sessions ≡ session_count engine.old.world }
+    ensures { OnOk result (sessions ≡ session_count engine.new.world) }
+{
+    if session == 0 || session > sessions {
         return Err(AllocError);
     }
-    let Ok(schedule) = read_schedule(alloc, moves.as_bytes(), sessions as u32) else {
-        return Err(AllocError);
+    engine.step(session)?;
+    Ok(engine.next(session))
+}
+
+/// The steps of a schedule.
+fn take_moves(engine: &mut Engine, sessions: u32, moves: &str) -> Result<(), AllocError>
+    requires { sessions ≡ session_count engine.old.world }
+    ensures { OnOk result (sessions ≡ session_count engine.new.world) }
+{
+    for digit in moves.as_bytes() {
+        step_of(engine, sessions, u32::from(digit.saturating_sub(b'0')))?;
+    }
+    Ok(())
+}
+
+/// A step of each session, and whether all scripts are at their end then.
+fn take_round(engine: &mut Engine, sessions: u32) -> Result<bool, AllocError>
+    requires { sessions ≡ session_count engine.old.world }
+    ensures { OnOk result (sessions ≡ session_count engine.new.world) }
+{
+    let mut all_ended = true;
+    for before in 0..sessions {
+        if step_of(engine, sessions, before + 1)? != Next::Nothing {
+            all_ended = false;
+        }
+    }
+    Ok(all_ended)
+}
+
+/// Runs scripts by a schedule, and then in turns to their end.
+fn run(alloc: Global, text: &str, moves: &str) -> Result<Ran, AllocError> {
+    let world = World {
+        scripts: scripts(alloc, text)?,
+        files: FileMap::new(alloc),
     };
-    run_scripts(alloc, scripts, schedule.moves.as_slice())
+    let sessions = world.scripts.len();
+    if sessions > 64 || !are_fit(&world) {
+        return Err(AllocError);
+    }
+    let sessions = sessions as u32;
+    let mut engine = Engine::new(alloc, Shape::standard(sessions), world)?;
+    take_moves(&mut engine, sessions, moves)?;
+    for _ in 0..99 {
+        if take_round(&mut engine, sessions)? {
+            return Ok(engine.into_parts());
+        }
+    }
+    Err(AllocError)
 }
 
 fn told(alloc: Global, event: &Event) -> Result<String, AllocError> {
@@ -285,7 +332,7 @@ fn told(alloc: Global, event: &Event) -> Result<String, AllocError> {
 
 /// Whether a run has the events and the tables.
 #[test]
-fn scripts_are_driven_as_worked_out(rt: HostRuntime) -> Result<(), Fail> {
+fn scripts_run_as_worked_out(rt: HostRuntime) -> Result<(), Fail> {
     let alloc = rt.alloc();
     for (text, moves, events, tables) in RUNS {
         let ran = run(alloc, text, moves)?;

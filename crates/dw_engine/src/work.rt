@@ -1,12 +1,10 @@
 //! An open statement, run on its session's view.
-ghost use Rattle.std.specs.Prelude.{◌≡◌, ◌++◌, ℕ, List as Items, IfOk, OnOk};
-ghost use Rattle.dw_engine.specs.Stands.{rows_under};
-ghost use Rattle.dw_engine.specs.Replies.{IsReply, inserted_under};
+ghost use Rattle.std.specs.Prelude.{IfOk};
+ghost use Rattle.dw_engine.specs.Replies.{IsReply};
 
-use crate::view::{Inserted, View};
-use dw_model::{Answer, Database, Plain, Refusal, Statement, limit_refusal};
-use dw_plain::{inserted_rows, plain_run};
-use dw_value::List;
+use crate::views::View;
+use dw_model::{Answer, FileMap, Outcome, Refusal, Statement, limit_refusal};
+use dw_plain::plain_outcome;
 use std::alloc::{AllocError, Global};
 
 /// What an open statement gives.
@@ -14,54 +12,35 @@ use std::alloc::{AllocError, Global};
 pub(crate) enum Replied {
     /// The answer, and what its session then sees.
     Answered { answer: Answer, view: View },
-    /// The refusal.
+    /// The refusal. The view is gone.
     Refused(Refusal),
 }
 
-/// What a statement gives that is run on a view.
-pub(crate) fn reply(alloc: Global, statement: &Statement, view: View) -> Result<Replied, AllocError>
-    ensures { IfOk result (IsReply statement.now view) }
-{
-    match plain_run(alloc, statement, &view.database)? {
-        Plain::Done { answer, next } => match limit_refusal(statement, &next) {
-            Some(refusal) => Ok(Replied::Refused(refusal)),
-            None => {
-                let View {
-                    database,
-                    mut inserted,
-                } = view;
-                note(alloc, statement, &database, &mut inserted)?;
-                let view = View {
-                    database: next,
-                    inserted,
-                };
-                Ok(Replied::Answered { answer, view })
-            }
-        },
-        Plain::Refused(refusal) => Ok(Replied::Refused(refusal)),
-    }
-}
-
-/// Notes what a statement inserts that is run on this database.
-fn note(
+/// What a statement gives that is run on a view beside the files that were handed in. It changes the view's database in
+/// place, and its change is kept there, moved and not copied. A refused one ends its transaction, so the view goes.
+pub(crate) fn reply(
     alloc: Global,
     statement: &Statement,
-    database: &Database,
-    inserted: &mut List<Inserted>,
-) -> Result<(), AllocError>
-    ensures { OnOk result ((name : Items ℕ) →
-        rows_under inserted.new name ≡ rows_under inserted.old name ++ inserted_under statement.now database.now name) }
+    files: &FileMap,
+    view: View,
+) -> Result<Replied, AllocError>
+    ensures { IfOk result (IsReply files.now statement.now view) }
 {
-    match statement {
-        Statement::Insert { table, .. } => inserted.push(Inserted {
-            table: table.copy()?,
-            rows: inserted_rows(alloc, statement, database)?,
-        }),
-        Statement::Begin
-        | Statement::Commit
-        | Statement::Rollback
-        | Statement::Vacuum { .. }
-        | Statement::Create { .. }
-        | Statement::Select { .. } => Ok(()),
+    let View {
+        mut database,
+        mut changes,
+    } = view;
+    match plain_outcome(alloc, statement, &database, files)? {
+        Ok(outcome) => {
+            let Outcome { answer, change } = outcome;
+            database.apply(&change)?;
+            if let Some(refusal) = limit_refusal(statement, &database) {
+                return Ok(Replied::Refused(refusal));
+            }
+            changes.push(change)?;
+            let view = View { database, changes };
+            Ok(Replied::Answered { answer, view })
+        }
+        Err(refusal) => Ok(Replied::Refused(refusal)),
     }
 }

@@ -1,11 +1,11 @@
 use Rattle.std.proofs.Common.{subst}
 use Rattle.std.specs.Prelude.{Option}
 use Rattle.dw_journal.specs.Transactions.{transaction_of}
-use Rattle.dw_core.specs.Machine.{number_due}
-use Rattle.dw_engine.specs.declared.view.View.{View}
-use Rattle.dw_engine.specs.Stands.{HasView}
-use Rattle.dw_engine.proofs.Seeing.{none_by}
-use Rattle.dw_engine.proofs.Going.{answer_has}
+use Rattle.dw_journal.specs.Turns.{number_due}
+use Rattle.dw_engine.specs.declared.views.View.{View}
+use Rattle.dw_engine.specs.EngineInvariant.{HasView}
+use Rattle.dw_engine.proofs.DueTurns.{answer_has}
+use Rattle.dw_engine.proofs.ViewLemmas.{none_by}
 use Rattle.dw_engine.proofs.answer.replied.Goals as goal
 
 pub unreachable-requires-in_default-view : goal.unreachable-requires-in_default-view

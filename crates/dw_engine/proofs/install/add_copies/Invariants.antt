@@ -1,3 +1,4 @@
+-- The rows with copies of those that the loop has passed.
 use Rattle.std.proofs.Common.{◌≡◌, ◌++◌, take}
 use Rattle.dw_engine.proofs.install.add_copies.Given as goal
 

@@ -7,5 +7,5 @@ use Rattle.dw_engine.proofs.tests.are_fit.Given as goal
 
 abbrev pub invariant-loop-script : goal.invariant-loop-script
 invariant-loop-script l =
-    (place : ℕ) (script : List Given) → place < l.script-index → slice_get l.scripts place ≡ Some script
+    (place : ℕ) (script : List Given) → place < l.script-index → slice_get l.world.scripts place ≡ Some script
     → (length script < 2 ^ 32) × ((k : ℕ) (table : List ℕ) → slice_get script k ≡ Some (Read (Vacuum table)) → ⊥)

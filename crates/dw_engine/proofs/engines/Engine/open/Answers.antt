@@ -1,0 +1,48 @@
+use Rattle.std.proofs.Common.{◌≡◌, None, Some, ap, sym, ◌∙◌}
+use Rattle.dw_model.specs.Binding.{bound_refusal}
+use Rattle.dw_model.specs.Databases.{def_of}
+use Rattle.dw_journal.specs.Contents.{view}
+use Rattle.dw_journal.specs.History.{History}
+use Rattle.dw_journal.specs.Legal.{blockers_of}
+use Rattle.dw_journal.specs.Locks.{wants_of}
+use Rattle.dw_journal.specs.Turns.{number_due}
+use Rattle.dw_engine.specs.NextStatements.{refusal_on}
+use Rattle.dw_engine.proofs.NextEvents.{work_in_aborted, bound_refused, opening_comes}
+use Rattle.dw_engine.proofs.StepLemmas.{engine_block}
+use Rattle.dw_engine.proofs.engines.Engine.open.Goals as goal
+
+pub decline-requires-clause-next : goal.decline-requires-clause-next
+decline-requires-clause-next c =
+    let now = c.args.self.now in
+    let session = c.args.session in
+    work_in_aborted now session c.requires.session.1 (number_due now session) c.requires.work.0 c.requires.work.2 (engine_block session c.self.view_is c.in-Aborted.ensures)
+
+pub decline-requires-in-Some : goal.decline-requires-in-Some
+decline-requires-in-Some c =
+    let now = c.args.self.now in
+    let core = c.self.inside.core in
+    let session = c.args.session in
+    let work = c.requires.work in
+    let free = ap (λ (h : History). blockers_of h session (number_due h session)) (sym c.self.view_is) ∙ c.ask.ensures (wants_of core.world session (number_due core session)) in
+    let bound : bound_refusal work.0 (def_of (view now session)) ≡ Some c.in-Some.refusal =
+    ap (refusal_on (view now session)) (sym work.1) ∙ sym c.in_ok-refusal-in-Outside.ensures ∙ c.in-Some.is in
+    record {
+      session = c.requires.session;
+      next = bound_refused now session c.requires.session.1 (number_due now session) work.0 work.2 free c.block.result c.in-Outside.is
+          (engine_block session c.self.view_is c.block.ensures) c.in-Some.refusal bound;
+    }
+
+pub opened-requires : goal.opened-requires
+opened-requires c =
+    let now = c.args.self.now in
+    let core = c.self.inside.core in
+    let session = c.args.session in
+    let work = c.requires.work in
+    let free = ap (λ (h : History). blockers_of h session (number_due h session)) (sym c.self.view_is) ∙ c.ask.ensures (wants_of core.world session (number_due core session)) in
+    let bound : bound_refusal work.0 (def_of (view now session)) ≡ None =
+    ap (refusal_on (view now session)) (sym work.1) ∙ sym c.in_ok-refusal-in-Outside.ensures ∙ c.in-None.is in
+    record {
+      session = c.requires.session;
+      next = opening_comes now session c.requires.session.1 work.0 work.2 work.1 free bound c.block.result c.in-Outside.is
+          (engine_block session c.self.view_is c.block.ensures);
+    }
