@@ -4,5 +4,8 @@ pub mod NoVacuum
 pub mod Short
 pub mod Causes
 pub mod Scripts
+pub mod Leading
+pub mod Nearing
+pub mod ScheduleMoves
 pub mod Reported
 pub mod Scripted

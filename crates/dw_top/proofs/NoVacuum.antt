@@ -1,5 +1,5 @@
 -- No VACUUM is read.
-use Rattle.std.proofs.Common.{◌≡◌, ℕ, ◌-◌, List, [], map, ap, sym, ◌∙◌}
+use Rattle.std.proofs.Common.{◌≡◌, ℕ, zero, suc, List, [], map, ap, sym, ◌∙◌}
 use Rattle.std.specs.Prelude.{slice_get, Option, Some, None, Result, option_map, unwrap_or}
 use Rattle.std.specs.Prelude.{Ok as Had, Err as Foreign}
 use Rattle.std.proofs.lemmas.Option.{slice_get-map}
@@ -9,9 +9,9 @@ use Rattle.dw_parse.specs.Reading.{read_statement}
 use Rattle.dw_script.specs.Statements.{statements}
 use Rattle.dw_model.specs.declared.statements.Statement.{Statement}
 use Rattle.dw_model.specs.declared.statements.Statement.TheVariants.{Create, Insert, Select, Begin, Commit, Rollback, Vacuum}
-use Rattle.dw_journal.specs.History.{read_in}
-use Rattle.dw_engine.specs.Run.{HaveNoVacuum}
-use Rattle.dw_top.specs.Run.{given_of, given_of_form, given_of_statement, given_of_tokens, givens_of}
+use Rattle.dw_journal.specs.Worlds.{read_in, statement_at}
+use Rattle.dw_engine.specs.EngineInvariant.{HaveNoVacuum}
+use Rattle.dw_top.specs.Run.{given_of, given_of_form, given_of_statement, given_of_tokens, givens_of, world_of}
 
 form_no_vacuum : (form : Statement) (table : List ℕ) → read_in (Some (given_of_form form)) ≡ Some (Vacuum table) → ⊥
 form_no_vacuum Begin table is = cc
@@ -40,7 +40,12 @@ script_no_vacuum None place table is = cc
 script_no_vacuum (Some bytes) place table is =
     given_no_vacuum (slice_get (statements bytes) place) table (ap read_in (sym (slice_get-map given_of (statements bytes) place)) ∙ is)
 
-pub no_vacuum : (files : List (List ℕ)) → HaveNoVacuum (map givens_of files)
-no_vacuum files session statement table is =
-    script_no_vacuum (slice_get files (session - 1)) (statement - 1) table
-    (ap (λ found. read_in (slice_get (unwrap_or found []) (statement - 1))) (sym (slice_get-map givens_of files (session - 1))) ∙ is)
+statement_read : (files : List (List ℕ)) (session statement : ℕ) (table : List ℕ) → statement_at (world_of (map givens_of files)) session statement ≡ Some (Vacuum table) → ⊥
+statement_read files session zero table is = cc
+statement_read files zero (suc place) table is = cc
+statement_read files (suc n) (suc place) table is =
+    script_no_vacuum (slice_get files n) place table
+    (ap (λ found. read_in (slice_get (unwrap_or found []) place)) (sym (slice_get-map givens_of files n)) ∙ is)
+
+pub no_vacuum : (files : List (List ℕ)) → HaveNoVacuum (world_of (map givens_of files))
+no_vacuum files session statement table is = statement_read files session statement table is

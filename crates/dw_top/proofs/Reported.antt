@@ -1,47 +1,49 @@
 -- What a run's report tells of.
-use Rattle.std.proofs.Common.{◌≡◌, ℕ, List, length, map, ap, ◌∙◌}
+use Rattle.std.proofs.Common.{◌≡◌, ℕ, List, map, ap, ◌∙◌}
 use Rattle.std.specs.Prelude.{Result, Ok, Err, IfOk}
 use Rattle.dw_model.specs.Databases.{Tables}
 use Rattle.dw_journal.specs.declared.Journal.{Journal}
-use Rattle.dw_journal.specs.History.{Scripts, history}
+use Rattle.dw_journal.specs.declared.World.{World}
+use Rattle.dw_journal.specs.Shapes.{standard_shape}
+use Rattle.dw_journal.specs.Worlds.{session_count}
+use Rattle.dw_journal.specs.History.{history_of}
 use Rattle.dw_journal.specs.Contents.{contents}
 use Rattle.dw_journal.specs.Serial.{serial_order}
 use Rattle.dw_journal.specs.Legal.{IsLegal}
 use Rattle.dw_journal.specs.Driven.{Move, IsDriven}
 use Rattle.dw_journal.proofs.StepLemmas.{EachFollows-steps, EachIsLegal-steps}
 use Rattle.dw_serial.proofs.Theorem.{legal_serial}
-use Rattle.dw_engine.specs.Run.{standard_shape}
 use Rattle.dw_print.specs.Report.{report, report_of}
 use Rattle.dw_top.specs.Run.{IsRun}
 
 -- a journal that arises from the moves is legal, follows from the scripts and is serial
-pub run_driven : (scripts : Scripts) (moves : List Move) (journal : Journal) → journal.shape ≡ standard_shape (length scripts)
-    → IsDriven scripts moves journal → IsRun scripts moves journal
-run_driven scripts moves journal shape driven =
-    let legal : IsLegal scripts journal = record {
-      follows = EachFollows-steps journal.shape scripts driven.steps;
-      legal = EachIsLegal-steps journal.shape scripts driven.steps;
+pub run_driven : (world : World) (moves : List Move) (journal : Journal) → journal.shape ≡ standard_shape (session_count world)
+    → IsDriven world moves journal → IsRun world moves journal
+run_driven world moves journal shape driven =
+    let legal : IsLegal world journal = record {
+      follows = EachFollows-steps journal.shape world driven.steps;
+      legal = EachIsLegal-steps journal.shape world driven.steps;
     } in
     record {
       shape = shape;
       driven = driven;
       legal = legal;
       follows = record {
-        each = EachFollows-steps journal.shape scripts driven.steps;
+        each = EachFollows-steps journal.shape world driven.steps;
         sessions = ap (λ shape. shape.sessions) shape;
         ends = driven.ends;
       };
-      serial = legal_serial scripts journal legal;
+      serial = legal_serial world journal legal;
     }
 
 -- the text of the journal beside the committed tables and the stamps in serial order is its report
-pub reported : {E : Type 0} (scripts : Scripts) (moves : List Move) (journal : Journal) (tables : Tables) (stamps : List ℕ) (result : Result (List ℕ) E)
-    → IsRun scripts moves journal → tables ≡ contents scripts (history journal) → stamps ≡ map (λ transaction. transaction.stamp) (serial_order journal)
+pub reported : {E : Type 0} (world : World) (moves : List Move) (journal : Journal) (tables : Tables) (stamps : List ℕ) (result : Result (List ℕ) E)
+    → IsRun world moves journal → tables ≡ contents (history_of world journal) → stamps ≡ map (λ transaction. transaction.stamp) (serial_order journal)
     → IfOk result (λ bytes. bytes ≡ report_of journal tables stamps)
-    → IfOk result (λ bytes. (journal : Journal) × IsRun scripts moves journal × (bytes ≡ report scripts journal))
-reported scripts moves journal tables stamps (Ok bytes) run committed ordered is = (
+    → IfOk result (λ bytes. (journal : Journal) × IsRun world moves journal × (bytes ≡ report world journal))
+reported world moves journal tables stamps (Ok bytes) run committed ordered is = (
   journal,
   run,
-  is ∙ ap (λ tables. report_of journal tables stamps) committed ∙ ap (λ stamps. report_of journal (contents scripts (history journal)) stamps) ordered,
+  is ∙ ap (λ tables. report_of journal tables stamps) committed ∙ ap (λ stamps. report_of journal (contents (history_of world journal)) stamps) ordered,
 )
-reported scripts moves journal tables stamps (Err error) run committed ordered is = tt
+reported world moves journal tables stamps (Err error) run committed ordered is = tt

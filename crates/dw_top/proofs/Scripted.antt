@@ -4,12 +4,12 @@ use Rattle.std.specs.Prelude.{Option, Some, None, Result, unwrap_or, if◌then�
 use Rattle.std.specs.Prelude.{Ok as Had, Err as Refused}
 use Rattle.dw_io.specs.Outside.{Held}
 use Rattle.dw_journal.specs.declared.Journal.{Journal}
-use Rattle.dw_journal.specs.History.{Scripts}
+use Rattle.dw_journal.specs.declared.World.{World}
 use Rattle.dw_journal.specs.Driven.{Move}
 use Rattle.dw_script.specs.declared.status.Status.{Status}
 use Rattle.dw_print.specs.Report.{report}
-use Rattle.dw_top.specs.Due.{bytes_within, room_behind, file_of, files_of, with_file, with_bytes}
-use Rattle.dw_top.specs.Run.{IsRun, givens_of, bytes_under, scripts_under}
+use Rattle.dw_top.specs.Due.{bytes_within, room_after, file_of, files_of, with_file, with_bytes}
+use Rattle.dw_top.specs.Run.{IsRun, givens_of, bytes_under, world_of, world_under}
 
 -- what is had where it isn't refused
 had_by : (refuse : Bool) (status : Status) (there bytes : List ℕ)
@@ -23,23 +23,23 @@ there_by room name None bytes had = cc
 there_by room name (Some there) bytes had = had_by (nat_lt room (length there)) _ there bytes had
 
 pub bytes_there : (held : Held) (before : ℕ) (name bytes : List ℕ) → file_of held before name ≡ Had bytes → bytes_under held name ≡ bytes
-bytes_there held before name bytes had = there_by (room_behind before) name (held name) bytes had
+bytes_there held before name bytes had = there_by (room_after before) name (held name) bytes had
 
-behind_had : (bytes : List ℕ) (behind : Result (List (List ℕ)) Status) (files : List (List ℕ)) → with_bytes bytes behind ≡ Had files
-    → (more : List (List ℕ)) × (behind ≡ Had more) × (bytes ∷ more ≡ files)
-behind_had bytes (Refused status) files had = cc
-behind_had bytes (Had more) files had = (more, refl, (cc))
+later_had : (bytes : List ℕ) (later : Result (List (List ℕ)) Status) (files : List (List ℕ)) → with_bytes bytes later ≡ Had files
+    → (more : List (List ℕ)) × (later ≡ Had more) × (bytes ∷ more ≡ files)
+later_had bytes (Refused status) files had = cc
+later_had bytes (Had more) files had = (more, refl, (cc))
 
-first_had : (file : Result (List ℕ) Status) (behind : List ℕ → Result (List (List ℕ)) Status) (files : List (List ℕ)) → with_file file behind ≡ Had files
-    → (bytes : List ℕ) × (more : List (List ℕ)) × (file ≡ Had bytes) × (behind bytes ≡ Had more) × (bytes ∷ more ≡ files)
-first_had (Refused status) behind files had = cc
-first_had (Had bytes) behind files had =
-    let rest = behind_had bytes (behind bytes) files had in
+first_had : (file : Result (List ℕ) Status) (later : List ℕ → Result (List (List ℕ)) Status) (files : List (List ℕ)) → with_file file later ≡ Had files
+    → (bytes : List ℕ) × (more : List (List ℕ)) × (file ≡ Had bytes) × (later bytes ≡ Had more) × (bytes ∷ more ≡ files)
+first_had (Refused status) later files had = cc
+first_had (Had bytes) later files had =
+    let rest = later_had bytes (later bytes) files had in
     (bytes, rest.0, refl, rest.1, rest.2)
 
 -- so the statements of the bytes that were had are those of the scripts that are held
 pub scripts_had : (held : Held) (before : ℕ) (names files : List (List ℕ)) → files_of held before names ≡ Had files
-    → map givens_of files ≡ scripts_under names held
+    → map givens_of files ≡ map (λ name. givens_of (bytes_under held name)) names
 scripts_had held before [] files had = let none : files ≡ [] = cc in ap (map givens_of) none
 scripts_had held before (name ∷ names) files had =
     let first = first_had (file_of held before name) (λ bytes. files_of held (before + length bytes) names) files had in
@@ -48,12 +48,12 @@ scripts_had held before (name ∷ names) files had =
     ∙ ap (λ scripts. givens_of (bytes_under held name) ∷ scripts) (scripts_had held (before + length first.0) names first.1 first.3)
 
 -- a run of the same scripts under the same moves
-pub run_same : {E : Type 0} (result : Result (List ℕ) E) (scripts same : Scripts) (moves alike : List Move) → scripts ≡ same → moves ≡ alike
-    → IfOk result (λ bytes. (journal : Journal) × IsRun scripts moves journal × (bytes ≡ report scripts journal))
+pub run_same : {E : Type 0} (result : Result (List ℕ) E) (world same : World) (moves alike : List Move) → world ≡ same → moves ≡ alike
+    → IfOk result (λ bytes. (journal : Journal) × IsRun world moves journal × (bytes ≡ report world journal))
     → IfOk result (λ bytes. (journal : Journal) × IsRun same alike journal × (bytes ≡ report same journal))
-run_same (Refused error) scripts same moves alike are go run = tt
-run_same (Had bytes) scripts same moves alike are go run = (
+run_same (Refused error) world same moves alike are go run = tt
+run_same (Had bytes) world same moves alike are go run = (
   run.0,
-  subst (λ (moves : List Move). IsRun same moves run.0) go (subst (λ (scripts : Scripts). IsRun scripts moves run.0) are run.1),
-  subst (λ (scripts : Scripts). bytes ≡ report scripts run.0) are run.2,
+  subst (λ (moves : List Move). IsRun same moves run.0) go (subst (λ (world : World). IsRun world moves run.0) are run.1),
+  subst (λ (world : World). bytes ≡ report world run.0) are run.2,
 )

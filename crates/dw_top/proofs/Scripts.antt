@@ -3,7 +3,7 @@ use Rattle.std.proofs.Common.{◌≡◌, ℕ, ◌+◌, ◌<◌, List, [], ◌∷
 use Rattle.std.specs.Prelude.{Result, Ok, Err, is_err, OnOk}
 use Rattle.std.proofs.lemmas.List.{take_more, map-append}
 use Rattle.dw_journal.specs.declared.Given.{Given}
-use Rattle.dw_journal.specs.History.{Scripts}
+use Rattle.dw_journal.specs.Worlds.{Scripts}
 use Rattle.dw_top.specs.Run.{givens_of}
 
 -- what holds of a call that gave no error
@@ -11,7 +11,7 @@ pub at_ok : {T E P : Type 0} (result : Result T E) → is_err result ≡ false �
 at_ok (Ok value) is_ok holds = holds
 at_ok (Err error) is_ok holds = cc
 
--- one more script behind those that were read
+-- one more script after those that were read
 pub scripts_more : (files : List (List ℕ)) (place : ℕ) (bytes : List ℕ) (scripts : Scripts) (script : List Given) → place < length files
     → bytes ≡ get_or files place bytes → scripts ≡ map givens_of (take place files) → script ≡ givens_of bytes
     → scripts ++ script ∷ [] ≡ map givens_of (take (place + 1) files)

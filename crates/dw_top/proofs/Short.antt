@@ -2,8 +2,7 @@
 use Rattle.std.proofs.Common.{◌≡◌, zero, suc, ◌<◌, ◌^◌, List, [], ◌∷◌, ◌++◌, length, subst, refl}
 use Rattle.std.specs.Prelude.{Some}
 use Rattle.dw_journal.specs.declared.Given.{Given}
-use Rattle.dw_journal.specs.History.{Scripts}
-use Rattle.dw_engine.specs.Run.{AreShort}
+use Rattle.dw_journal.specs.Worlds.{Scripts, AreShort}
 
 same_some : (a b : List Given) → Some a ≡ Some b → a ≡ b
 same_some a b same = cc

@@ -10,12 +10,12 @@ use Rattle.dw_script.specs.declared.status.Status.{Status}
 use Rattle.dw_script.specs.declared.status.Status.TheVariants.{Ok, Usage, ReadFault, WriteFault, Missing, BadScript, BadSchedule, Memory, TooLong}
 use Rattle.dw_script.specs.Statements.{script_cause}
 use Rattle.dw_script.specs.Schedule.{Read, read_schedule}
-use Rattle.dw_top.specs.declared.files.TheConstants.{MAX_FILE, MAX_FILES}
 use Rattle.dw_top.specs.Words.{names_of}
 
--- the most bytes that a file may have where so many were read before it: 16 MiB, and 1 GiB with those
-abbrev pub room_behind : ℕ → ℕ
-room_behind before = min MAX_FILE (MAX_FILES - before)
+-- the most bytes that a file may have where so many were read before it: 16 MiB, and 1 GiB with those; the limits are
+-- this project's own
+abbrev pub room_after : ℕ → ℕ
+room_after before = min 16777216 (1073741824 - before)
 
 -- the bytes that stand under a name, or why they can't be had: nothing stands there, or too much
 abbrev pub bytes_within : ℕ → List ℕ → Option (List ℕ) → Result (List ℕ) Status
@@ -24,16 +24,16 @@ bytes_within room name (Some bytes) = if nat_lt room (length bytes) then Refused
 
 -- the bytes of a file, where so many were read before it, or why they can't be had
 abbrev pub file_of : Held → ℕ → List ℕ → Result (List ℕ) Status
-file_of held before name = bytes_within (room_behind before) name (held name)
+file_of held before name = bytes_within (room_after before) name (held name)
 
--- a file's bytes before those of the files behind it, unless one of them can't be had
+-- a file's bytes before those of the files after it, unless one of them can't be had
 abbrev pub with_bytes : List ℕ → Result (List (List ℕ)) Status → Result (List (List ℕ)) Status
 with_bytes bytes (Refused status) = Refused status
 with_bytes bytes (Had files) = Had (bytes ∷ files)
 
 abbrev pub with_file : Result (List ℕ) Status → (List ℕ → Result (List (List ℕ)) Status) → Result (List (List ℕ)) Status
-with_file (Refused status) behind = Refused status
-with_file (Had bytes) behind = with_bytes bytes (behind bytes)
+with_file (Refused status) later = Refused status
+with_file (Had bytes) later = with_bytes bytes (later bytes)
 
 -- the bytes of files, where so many were read before them, or why the first that can't be had can't
 abbrev pub files_of : Held → ℕ → List (List ℕ) → Result (List (List ℕ)) Status

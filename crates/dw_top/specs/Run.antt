@@ -2,10 +2,12 @@
 -- words name, the moves of its schedule, and its journal.
 use Rattle.std.specs.Prelude.{◌≡◌, ℕ, List, [], length, map, Option, Some, None, Result, unwrap_or}
 use Rattle.std.specs.Prelude.{Ok as Had, Err as Foreign}
+use Rattle.std.specs.FinMap as map_of
 use Rattle.std.specs.Result.{result_unwrap_or}
 use Rattle.dw_io.specs.Outside.{Held}
 use Rattle.dw_script.specs.Statements.{statements}
-use Rattle.dw_script.specs.Schedule.{read_schedule}
+use Rattle.dw_script.specs.declared.schedule.Move.{Move as Entry}
+use Rattle.dw_script.specs.Schedule.{read_schedule, steps_of}
 use Rattle.dw_lex.specs.declared.token.Token.{Token}
 use Rattle.dw_lex.specs.Reading.{read_tokens}
 use Rattle.dw_parse.specs.Reading.{read_statement}
@@ -15,12 +17,13 @@ use Rattle.dw_model.specs.declared.statements.Statement.TheVariants.{Vacuum}
 use Rattle.dw_journal.specs.declared.Given.{Given}
 use Rattle.dw_journal.specs.declared.Given.TheVariants.{Read, Refused}
 use Rattle.dw_journal.specs.declared.Journal.{Journal}
-use Rattle.dw_journal.specs.History.{Scripts}
+use Rattle.dw_journal.specs.declared.World.{World}
+use Rattle.dw_journal.specs.Shapes.{standard_shape}
+use Rattle.dw_journal.specs.Worlds.{Scripts, session_count}
 use Rattle.dw_journal.specs.Follows.{Follows}
 use Rattle.dw_journal.specs.Legal.{IsLegal}
 use Rattle.dw_journal.specs.Serial.{IsSerial}
-use Rattle.dw_journal.specs.Driven.{Move, IsDriven}
-use Rattle.dw_engine.specs.Run.{standard_shape, moves_of}
+use Rattle.dw_journal.specs.Driven.{Move, OfSession, IsDriven}
 use Rattle.dw_top.specs.Words.{names_of}
 
 -- A statement that a session can do is read. VACUUM is refused at its first byte, as outside the grammar, until sessions
@@ -51,22 +54,30 @@ givens_of bytes = map given_of (statements bytes)
 abbrev pub bytes_under : Held → List ℕ → List ℕ
 bytes_under held name = unwrap_or (held name) []
 
--- the scripts that these names name, one for each session
-abbrev pub scripts_under : List (List ℕ) → Held → Scripts
-scripts_under names held = map (λ name. givens_of (bytes_under held name)) names
+-- what scripts are run beside: no file is handed in until statements load them
+abbrev pub world_of : Scripts → World
+world_of scripts = record { scripts = scripts; files = map_of.empty }
+
+-- the scripts that these names name, one for each session, as the world of a run
+abbrev pub world_under : List (List ℕ) → Held → World
+world_under names held = world_of (map (λ name. givens_of (bytes_under held name)) names)
+
+-- the moves of a schedule, step by step
+abbrev pub moves_of : List Entry → List Move
+moves_of entries = map OfSession (steps_of entries)
 
 -- the moves that a schedule for so many sessions says; none where it is bad
 abbrev pub moves_read : ℕ → List ℕ → List Move
 moves_read sessions bytes = moves_of (result_unwrap_or (read_schedule sessions bytes) [])
 
--- the scripts of a run
-abbrev pub scripts_of : Option (List ℕ × List (List ℕ)) → Held → Scripts
-scripts_of None held = []
-scripts_of (Some names) held = scripts_under names.1 held
+-- the world of a run
+abbrev pub world_named : Option (List ℕ × List (List ℕ)) → Held → World
+world_named None held = world_of []
+world_named (Some names) held = world_under names.1 held
 
--- the scripts that the words name among these files
-abbrev pub scripts_in : List (List ℕ) → Held → Scripts
-scripts_in words held = scripts_of (names_of words) held
+-- the world of the scripts that the words name among these files
+abbrev pub world_in : List (List ℕ) → Held → World
+world_in words held = world_named (names_of words) held
 
 -- the moves of a run
 abbrev pub moves_under : Option (List ℕ × List (List ℕ)) → Held → List Move
@@ -78,9 +89,9 @@ abbrev pub moves_in : List (List ℕ) → Held → List Move
 moves_in words held = moves_under (names_of words) held
 
 -- a journal of a run of these scripts under this schedule's moves, with a session for each script
-pub record IsRun (scripts : Scripts) (moves : List Move) (journal : Journal) : Type 0 where
-  pub shape : journal.shape ≡ standard_shape (length scripts)
-  pub driven : IsDriven scripts moves journal
-  pub legal : IsLegal scripts journal
-  pub follows : Follows scripts journal
-  pub serial : IsSerial scripts journal
+pub record IsRun (world : World) (moves : List Move) (journal : Journal) : Type 0 where
+  pub shape : journal.shape ≡ standard_shape (session_count world)
+  pub driven : IsDriven world moves journal
+  pub legal : IsLegal world journal
+  pub follows : Follows world journal
+  pub serial : IsSerial world journal

@@ -1,7 +1,6 @@
 -- The words of the command line: a schedule's name and 1 to 64 scripts' names. The form is this project's own.
 use Rattle.std.specs.Prelude.{ℕ, Bool, not, ◌&&◌, nat_lt, nat_le, nat_eq, codes, List, [], ◌∷◌, length, Option, Some, None, if◌then◌else◌, is_some}
 use Rattle.std.specs.List.{starts_with, list_all}
-use Rattle.dw_top.specs.declared.words.TheConstants.{MAX_SCRIPTS}
 
 -- a word that begins with `-` and is longer than that one byte is no name
 abbrev pub is_option : List ℕ → Bool
@@ -15,9 +14,9 @@ is_generator word = starts_with nat_eq word (codes "gen:")
 abbrev pub are_names : List (List ℕ) → Bool
 are_names words = list_all (λ word. not (is_option word)) words
 
--- whether so many scripts may be named
+-- whether so many scripts may be named: 1 to 64
 abbrev pub is_count : ℕ → Bool
-is_count scripts = nat_le 1 scripts && nat_le scripts MAX_SCRIPTS
+is_count scripts = nat_le 1 scripts && nat_le scripts 64
 
 -- the names of the schedule and of the scripts, where the words have the form of the command
 abbrev pub names_of : List (List ℕ) → Option (List ℕ × List (List ℕ))

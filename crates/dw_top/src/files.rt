@@ -23,12 +23,12 @@ pub(crate) fn read_file<F: Files>(
     name: &Text,
     before: usize,
 ) -> Result<List<u8>, Status>
-    requires { before ≤ MAX_FILES }
+    requires { before ≤ 1073741824 }
     ensures keeps { F.held files.new ≡ F.held files.old }
     ensures count { F.faults files.old ≤ F.faults files.new }
     ensures fault { result ≡ Err Status.ReadFault → Rose (F.faults files.old) (F.faults files.new) }
     ensures early { IfErr result ComesBefore }
-    ensures all { IfOk result (λ bytes. before + length bytes ≤ MAX_FILES) }
+    ensures all { IfOk result (λ bytes. before + length bytes ≤ 1073741824) }
     ensures had { (h : Held) → F.held files.old ≡ Some h → IfOk result (λ bytes. file_of h before name.now ≡ Ok bytes) }
     ensures refused { (h : Held) → F.held files.old ≡ Some h → IfErr result (MayRefuse (file_of h before name.now)) }
 {
@@ -50,7 +50,7 @@ pub(crate) fn read_files<F: Files>(
     names: &[Text],
     before: usize,
 ) -> Result<List<List<u8>>, Status>
-    requires { before ≤ MAX_FILES }
+    requires { before ≤ 1073741824 }
     ensures keeps { F.held files.new ≡ F.held files.old }
     ensures count { F.faults files.old ≤ F.faults files.new }
     ensures fault { result ≡ Err Status.ReadFault → Rose (F.faults files.old) (F.faults files.new) }

@@ -6,6 +6,8 @@
 #![tactic(auto)]
 
 mod files;
+mod rounds;
+mod run;
 mod script;
 mod top;
 mod words;
@@ -45,7 +47,7 @@ fn answer(rt: HostRuntime) -> Status {
     }
 }
 
-/// The words behind the program's name. One that is not UTF-8 is no name.
+/// The words after the program's name. One that is not UTF-8 is no name.
 fn words_given(rt: HostRuntime) -> Result<Vec<Text>, Status> {
     let args = match env::args(&rt) {
         Ok(args) => args,

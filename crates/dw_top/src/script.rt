@@ -1,15 +1,16 @@
 //! Scripts, from their bytes to their statements.
 ghost use Rattle.std.specs.Prelude.{◌≡◌, ◌≤◌, None, length, map, zip, IfOk, IfErr};
-ghost use Rattle.dw_script.specs.Statements.{script_cause};
-ghost use Rattle.dw_engine.specs.Run.{AreShort, HaveNoVacuum};
+ghost use Rattle.dw_script.specs.Statements.{most_statements, script_cause};
+ghost use Rattle.dw_journal.specs.Worlds.{AreShort};
+ghost use Rattle.dw_engine.specs.EngineInvariant.{HaveNoVacuum};
 ghost use Rattle.dw_top.specs.Due.{refusal_of, bad_script, MayReject, ComesOfBytes};
-ghost use Rattle.dw_top.specs.Run.{given_of, given_of_form, givens_of};
+ghost use Rattle.dw_top.specs.Run.{given_of, given_of_form, givens_of, world_of};
 
 use dw_journal::Given;
 use dw_lex::{LexFault, tokens};
 use dw_model::{Refusal, Statement};
 use dw_parse::{ParseFault, parse};
-use dw_script::{MAX_STATEMENTS, Script, ScriptFault, Status, split};
+use dw_script::{Script, ScriptFault, Status, split};
 use dw_value::{List, Text};
 use std::alloc::{AllocError, Global};
 
@@ -59,7 +60,7 @@ fn given_statements(alloc: Global, script: &Script) -> Result<List<Given>, Alloc
 fn read_script(alloc: Global, name: &Text, bytes: &[u8]) -> Result<List<Given>, Status>
     ensures read { IfOk result (λ givens. script_cause bytes.now ≡ None) }
     ensures givens { IfOk result (λ givens. givens ≡ givens_of bytes.now) }
-    ensures few { IfOk result (λ givens. length givens ≤ MAX_STATEMENTS) }
+    ensures few { IfOk result (λ givens. length givens ≤ most_statements) }
     ensures rejected { IfErr result (MayReject (refusal_of (name.now, bytes.now))) }
     ensures of_bytes { IfErr result ComesOfBytes }
 {
@@ -89,7 +90,7 @@ pub(crate) fn read_scripts(
     ensures read { IfOk result (λ scripts. bad_script (zip names.now files.now) ≡ None) }
     ensures scripts { IfOk result (λ scripts. scripts ≡ map givens_of files.now) }
     ensures short { IfOk result AreShort }
-    ensures no_vacuum { IfOk result HaveNoVacuum }
+    ensures no_vacuum { IfOk result (λ scripts. HaveNoVacuum (world_of scripts)) }
     ensures rejected { IfErr result (MayReject (bad_script (zip names.now files.now))) }
     ensures of_bytes { IfErr result ComesOfBytes }
 {

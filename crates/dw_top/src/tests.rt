@@ -1,3 +1,4 @@
+//! Tests of whole calls that are refused.
 use crate::top::top;
 use dw_io::{MemoryFiles, MemorySink};
 use dw_value::{List, Text};

@@ -3,19 +3,20 @@ ghost use Rattle.std.specs.Prelude.{◌≡◌, ◌≢◌, ◌<◌, ◌≤◌, �
 ghost use Rattle.dw_io.specs.Outside.{Held, Rose, appended};
 ghost use Rattle.dw_script.specs.Schedule.{IsMove, read_schedule};
 ghost use Rattle.dw_journal.specs.declared.Journal.{Journal as Events};
+ghost use Rattle.dw_journal.specs.Worlds.{AreShort, session_count};
 ghost use Rattle.dw_print.specs.Report.{report};
-ghost use Rattle.dw_engine.specs.Run.{moves_of, AreShort, HaveNoVacuum};
-ghost use Rattle.dw_top.specs.declared.words.TheConstants.{MAX_SCRIPTS};
+ghost use Rattle.dw_engine.specs.EngineInvariant.{HaveNoVacuum};
 ghost use Rattle.dw_top.specs.Words.{have_form};
 ghost use Rattle.dw_top.specs.Due.{due, due_of_names, due_of_bytes, MayAnswer, MayRejectMoves, ComesBefore, ComesOfBytes};
-ghost use Rattle.dw_top.specs.Run.{IsRun, givens_of, bytes_under, scripts_under, scripts_in, moves_read, moves_in};
+ghost use Rattle.dw_top.specs.Run.{IsRun, givens_of, bytes_under, world_of, world_under, world_in, moves_of, moves_read, moves_in};
 
 use crate::files::{read_file, read_files};
+use crate::run::run_scripts;
 use crate::script::read_scripts;
 use crate::words::names;
-use dw_engine::run_scripts;
 use dw_io::{Files, Sink, write_whole};
-use dw_journal::Given;
+use dw_journal::World;
+use dw_model::FileMap;
 use dw_print::report_text;
 use dw_script::{Move, Schedule, ScheduleFault, Status, read_schedule};
 use dw_serial::serial_order;
@@ -25,7 +26,7 @@ use std::alloc::{AllocError, Global};
 /// Runs the scripts that `words` name, a session for each, under the schedule that they name, and writes the report of
 /// the run to `out`.
 ///
-/// `words` are those behind the program's name: a schedule's name, and those of 1 to 64 scripts, of which one may stand
+/// `words` are those after the program's name: a schedule's name, and those of 1 to 64 scripts, of which one may stand
 /// twice. The files are read once, in this order, each of at most 16 MiB and all together of at most 1 GiB, and nothing is
 /// written before the run is done. Each move of the schedule is so many steps of one session, from 1 to the number of
 /// scripts; past the last move the sessions take one step each in turn, until all scripts are at their end.
@@ -45,11 +46,11 @@ pub fn top<F: Files, S: Sink>(alloc: Global, words: &[Text], files: &mut F, out:
     ensures untouched { result ≢ Status.Ok → result ≢ Status.WriteFault → S.has out.new ≡ S.has out.old }
     ensures due { (h : Held) → F.held files.old ≡ Some h → MayAnswer (due words.now h) result }
     ensures headline { (h : Held) → F.held files.old ≡ Some h → result ≡ Status.Ok →
-        (journal : Events) × IsRun (scripts_in words.now h) (moves_in words.now h) journal
-        × (S.has out.new ≡ appended (S.has out.old) (report (scripts_in words.now h) journal)) }
+        (journal : Events) × IsRun (world_in words.now h) (moves_in words.now h) journal
+        × (S.has out.new ≡ appended (S.has out.old) (report (world_in words.now h) journal)) }
     ensures prefix { (h : Held) → F.held files.old ≡ Some h → result ≡ Status.WriteFault →
-        (journal : Events) × IsRun (scripts_in words.now h) (moves_in words.now h) journal
-        × ((n : ℕ) × (S.has out.new ≡ appended (S.has out.old) (take n (report (scripts_in words.now h) journal)))) }
+        (journal : Events) × IsRun (world_in words.now h) (moves_in words.now h) journal
+        × ((n : ℕ) × (S.has out.new ≡ appended (S.has out.old) (take n (report (world_in words.now h) journal)))) }
     ensures complete { (h : Held) → F.held files.old ≡ Some h → due words.now h ≡ Status.Ok →
         ¬ (Rose (F.faults files.old) (F.faults files.new)) → ¬ (Rose (S.faults out.old) (S.faults out.new)) →
         (result ≡ Status.Ok) ⊎ (result ≡ Status.Memory) }
@@ -74,7 +75,7 @@ fn prepare<F: Files>(
     scripts: &[Text],
     files: &mut F,
 ) -> Result<List<u8>, Status>
-    requires { length scripts.now ≤ MAX_SCRIPTS }
+    requires { length scripts.now ≤ 64 }
     ensures keeps { F.held files.new ≡ F.held files.old }
     ensures count { F.faults files.old ≤ F.faults files.new }
     ensures fault { result ≡ Err Status.ReadFault → Rose (F.faults files.old) (F.faults files.new) }
@@ -82,8 +83,8 @@ fn prepare<F: Files>(
     ensures refused { (h : Held) → F.held files.old ≡ Some h → IfErr result (MayAnswer (due_of_names schedule.now scripts.now h)) }
     ensures due { (h : Held) → F.held files.old ≡ Some h → IfOk result (λ bytes. due_of_names schedule.now scripts.now h ≡ Status.Ok) }
     ensures run { (h : Held) → F.held files.old ≡ Some h → IfOk result (λ bytes.
-        (journal : Events) × IsRun (scripts_under scripts.now h) (moves_read (length scripts.now) (bytes_under h schedule.now)) journal
-        × (bytes ≡ report (scripts_under scripts.now h) journal)) }
+        (journal : Events) × IsRun (world_under scripts.now h) (moves_read (length scripts.now) (bytes_under h schedule.now)) journal
+        × (bytes ≡ report (world_under scripts.now h) journal)) }
 {
     let moves = read_file(alloc, files, schedule, 0)?;
     let statements = read_files(alloc, files, scripts, moves.len())?;
@@ -98,17 +99,21 @@ fn report_of(
     scripts: &[List<u8>],
 ) -> Result<List<u8>, Status>
     requires same { length names.now ≡ length scripts.now }
-    requires few { length scripts.now ≤ MAX_SCRIPTS }
+    requires few { length scripts.now ≤ 64 }
     ensures of_bytes { IfErr result ComesOfBytes }
     ensures refused { IfErr result (MayAnswer (due_of_bytes names.now schedule.now scripts.now)) }
     ensures due { IfOk result (λ bytes. due_of_bytes names.now schedule.now scripts.now ≡ Status.Ok) }
     ensures run { IfOk result (λ bytes.
-        (journal : Events) × IsRun (map givens_of scripts.now) (moves_read (length scripts.now) schedule.now) journal
-        × (bytes ≡ report (map givens_of scripts.now) journal)) }
+        (journal : Events) × IsRun (world_of (map givens_of scripts.now)) (moves_read (length scripts.now) schedule.now) journal
+        × (bytes ≡ report (world_of (map givens_of scripts.now)) journal)) }
 {
     let statements = read_scripts(alloc, names, scripts)?;
     let schedule = read_moves(alloc, schedule, scripts.len() as u32)?;
-    match report_of_run(alloc, statements, schedule.moves.as_slice()) {
+    let world = World {
+        scripts: statements,
+        files: FileMap::new(alloc),
+    };
+    match report_of_run(alloc, world, schedule.moves.as_slice()) {
         Ok(report) => Ok(report),
         Err(_) => Err(Status::Memory),
     }
@@ -129,19 +134,15 @@ fn read_moves(alloc: Global, bytes: &[u8], sessions: u32) -> Result<Schedule, St
 }
 
 /// The report of the run of scripts under the moves of a schedule.
-fn report_of_run(
-    alloc: Global,
-    scripts: List<List<Given>>,
-    moves: &[Move],
-) -> Result<List<u8>, AllocError>
-    requires sessions { length scripts < 2 ^ 16 }
-    requires short { AreShort scripts }
-    requires no_vacuum { HaveNoVacuum scripts }
-    requires moves { All (IsMove (length scripts)) moves.now }
-    ensures { IfOk result (λ bytes. (journal : Events) × IsRun scripts (moves_of moves.now) journal
-        × (bytes ≡ report scripts journal)) }
+fn report_of_run(alloc: Global, world: World, moves: &[Move]) -> Result<List<u8>, AllocError>
+    requires sessions { session_count world < 2 ^ 16 }
+    requires short { AreShort world.scripts }
+    requires no_vacuum { HaveNoVacuum world }
+    requires moves { All (IsMove (session_count world)) moves.now }
+    ensures { IfOk result (λ bytes. (journal : Events) × IsRun world (moves_of moves.now) journal
+        × (bytes ≡ report world journal)) }
 {
-    let ran = run_scripts(alloc, scripts, moves)?;
+    let ran = run_scripts(alloc, world, moves)?;
     let serial = serial_order(alloc, &ran.journal)?;
     report_text(alloc, &ran.journal, &ran.database, &serial)
 }

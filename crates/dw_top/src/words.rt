@@ -12,7 +12,7 @@ pub(crate) const MAX_SCRIPTS: usize = 64;
 /// and a schedule's name doesn't begin with `gen:`. The form is this project's own.
 pub(crate) fn names(words: &[Text]) -> Option<(&Text, &[Text])>
     ensures names { option_map (λ names. (names.0.now, names.1.now)) result ≡ names_of words.now }
-    ensures few { IfSome result (λ names. length names.1.now ≤ MAX_SCRIPTS) }
+    ensures few { IfSome result (λ names. length names.1.now ≤ 64) }
 {
     match words {
         [schedule, scripts @ ..]

@@ -1,3 +1,4 @@
+//! Tests of whole calls that print a report.
 use crate::tests::{Named, call, put_file, words_of};
 use crate::top::top;
 use dw_io::{MemoryFiles, MemorySink, Sink, SinkFault};
@@ -33,7 +34,7 @@ const RUNS: &str =
 |BEGIN; BEGIN; COMMIT;|absent|absent|1 begin 1 1~2 pass 1 2 BEGIN~3 pass 1 3 COMMIT~4 end 1
 2 1*10000|||absent|warehouse nodes 2 slices 2 clusters 1 slots 5 sessions 2~1 end 2~2 end 1";
 
-/// In each row: the statements behind those of `TABLE`, and a line of the report that they give.
+/// In each row: the statements after those of `TABLE`, and a line of the report that they give.
 const LINES: &str = "INSERT INTO t VALUES (2147483647,'abc');|5 answer 1 2 INSERT 1
 INSERT INTO t VALUES (-2147483648,null);|- -2147483648~\\N
 INSERT INTO t VALUES (2147483648,'a');|5 refuse 1 2 5 range

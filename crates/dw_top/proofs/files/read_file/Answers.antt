@@ -1,5 +1,5 @@
 use Rattle.std.proofs.Common.{◌∙◌, ap, Err}
-use Rattle.dw_top.specs.Due.{room_behind}
+use Rattle.dw_top.specs.Due.{room_after}
 use Rattle.dw_top.proofs.Refusals.{MayRefuse-too_long}
 use Rattle.dw_top.proofs.files.read_file.Goals as goal
 
@@ -8,4 +8,4 @@ pub returns-in-Err-TooLong-clause-refused : goal.returns-in-Err-TooLong-clause-r
 returns-in-Err-TooLong-clause-refused g c held told =
     let stop = c.in-Err-TooLong.is ∙ ap Err c.in-Err-TooLong.field-0-is in
     let long = c.read_file.ensures.too_long held told stop in
-    MayRefuse-too_long (room_behind c.args.before) c.args.name.now (held c.args.name.now) c.too_long.result (rw (c.as_str.ensures.bytes, c.min-room.ensures) at long) c.too_long.ensures
+    MayRefuse-too_long (room_after c.args.before) c.args.name.now (held c.args.name.now) c.too_long.result (rw (c.as_str.ensures.bytes, c.min-room.ensures) at long) c.too_long.ensures

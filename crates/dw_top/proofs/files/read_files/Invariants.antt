@@ -2,10 +2,10 @@ use Rattle.std.proofs.Common.{◌≡◌, ◌≤◌, length, drop, Some}
 use Rattle.dw_io.specs.Outside.{Held}
 use Rattle.dw_top.specs.declared.files.TheConstants.{MAX_FILES}
 use Rattle.dw_top.specs.Due.{files_of}
-use Rattle.dw_top.proofs.Reading.{behind}
+use Rattle.dw_top.proofs.Reading.{after_files}
 use Rattle.dw_top.proofs.files.read_files.Given as goal
 
--- the files so far are had, and the others are read behind them
+-- the files so far are had, and the others are read after them
 abbrev pub invariant-loop-name : goal.invariant-loop-name
 invariant-loop-name g l = record {
   keeps : g.F.Files.held l.files ≡ g.F.Files.held l.initial.files;
@@ -13,5 +13,5 @@ invariant-loop-name g l = record {
   within : l.total ≤ MAX_FILES;
   each : length l.had ≡ l.name-index;
   so_far : (h : Held) → g.F.Files.held l.initial.files ≡ Some h
-      → files_of h l.before l.names ≡ behind l.had (files_of h l.total (drop l.name-index l.names));
+      → files_of h l.before l.names ≡ after_files l.had (files_of h l.total (drop l.name-index l.names));
 }

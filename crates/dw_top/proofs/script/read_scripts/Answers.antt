@@ -5,9 +5,10 @@ use Rattle.std.proofs.lemmas.List.{length_push}
 use Rattle.std.proofs.lemmas.Result.{err_from_is_err_and}
 use Rattle.std.proofs.lemmas.Slice.Zip.{zip_turn, zip_end, length-zip}
 use Rattle.dw_script.specs.declared.status.Status.TheVariants.{BadScript}
-use Rattle.dw_engine.specs.Run.{AreShort, HaveNoVacuum}
+use Rattle.dw_journal.specs.Worlds.{Scripts, AreShort}
+use Rattle.dw_engine.specs.EngineInvariant.{HaveNoVacuum}
 use Rattle.dw_top.specs.Due.{bad_script, refusal_of}
-use Rattle.dw_top.specs.Run.{givens_of}
+use Rattle.dw_top.specs.Run.{givens_of, world_of}
 use Rattle.dw_top.proofs.Causes.{good_more, MayReject-scripts}
 use Rattle.dw_top.proofs.Short.{short_push}
 use Rattle.dw_top.proofs.NoVacuum.{no_vacuum}
@@ -41,7 +42,7 @@ loop-name-preserved c =
       short = subst AreShort (sym pushed) (short_push c.loop-name.scripts script c.loop-name.invariant.short (omega (arith, c.in_ok-script.ensures.few)));
     }
 
--- behind the last turn all are
+-- after the last turn all are
 pub returns-clause-read : goal.returns-clause-read
 returns-clause-read c =
     let names = c.args.names.now in
@@ -52,4 +53,4 @@ returns-clause-read c =
 
 pub returns-clause-no_vacuum : goal.returns-clause-no_vacuum
 returns-clause-no_vacuum c =
-    subst HaveNoVacuum (sym c.loop-name.invariant.scripts) (no_vacuum (take (length c.loop-name.yielded) c.args.files.now))
+    subst (λ (scripts : Scripts). HaveNoVacuum (world_of scripts)) (sym c.loop-name.invariant.scripts) (no_vacuum (take (length c.loop-name.yielded) c.args.files.now))

@@ -1,5 +1,5 @@
 use Rattle.std.proofs.Common.{◌≡◌, map, take, length, zip, None}
-use Rattle.dw_engine.specs.Run.{AreShort}
+use Rattle.dw_journal.specs.Worlds.{AreShort}
 use Rattle.dw_top.specs.Due.{bad_script}
 use Rattle.dw_top.specs.Run.{givens_of}
 use Rattle.dw_top.proofs.script.read_scripts.Given as goal

@@ -1,5 +1,5 @@
 use Rattle.std.proofs.Common.{length, map, ap, sym, ◌∙◌}
-use Rattle.dw_top.specs.Run.{givens_of, moves_read}
+use Rattle.dw_top.specs.Run.{givens_of, world_of, moves_read}
 use Rattle.dw_top.proofs.Scripted.{bytes_there, scripts_had, run_same}
 use Rattle.dw_top.proofs.top.prepare.Goals as goal
 
@@ -12,7 +12,7 @@ returns-clause-run g c held told =
     let files = c.in_ok-statements.statements in
     let there = bytes_there held 0 schedule moves (c.in_ok-moves.ensures.had held told) in
     let had = c.in_ok-statements.ensures.had held (c.read_file.ensures.keeps ∙ told) in
-    let scripts = ap (map givens_of) c.as_slice-2.ensures.items ∙ scripts_had held c.len.result names files had in
+    let scripts = ap (λ files. world_of (map givens_of files)) c.as_slice-2.ensures.items ∙ ap world_of (scripts_had held c.len.result names files had) in
     let go = ap (λ count. moves_read count c.as_slice.result.now) (ap length c.as_slice-2.ensures.items ∙ c.in_ok-statements.ensures.each)
     ∙ ap (λ bytes. moves_read (length names) bytes) (c.as_slice.ensures.items ∙ sym there) in
     run_same c.report_of.result _ _ _ _ scripts go c.report_of.ensures.run
