@@ -4,3 +4,4 @@ pub mod Answers
 pub mod Tables
 pub mod Events
 pub mod Report
+pub mod Checked

@@ -4,6 +4,7 @@
 #![tactic(auto)]
 
 mod answers;
+mod checked;
 mod events;
 mod fields;
 mod laws;
@@ -11,6 +12,7 @@ mod report;
 mod rows;
 mod tables;
 
+pub use checked::checked_text;
 pub use laws::{fields_read_back, shown_fields_are_apart};
 pub use report::report_text;
 

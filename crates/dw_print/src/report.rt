@@ -47,7 +47,7 @@ fn write_header(out: &mut Vec<u8>, shape: &Shape) -> Result<(), AllocError>
 }
 
 /// Writes the serial order of the committed transactions, given as their stamps.
-fn write_serial(out: &mut Vec<u8>, stamps: &[u64]) -> Result<(), AllocError>
+pub(crate) fn write_serial(out: &mut Vec<u8>, stamps: &[u64]) -> Result<(), AllocError>
     ensures { OnOk result (out.new.items ≡ out.old.items ++ serial_line stamps.now) }
 {
     write_text(out, "serial")?;

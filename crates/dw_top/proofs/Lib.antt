@@ -1,9 +1,3 @@
-pub mod Refusals
-pub mod Reading
-pub mod NoVacuum
-pub mod Short
-pub mod Causes
-pub mod Scripts
 pub mod Leading
 pub mod Nearing
 pub mod ScheduleMoves

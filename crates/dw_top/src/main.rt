@@ -5,18 +5,13 @@
 //! machine's files and the standard output, and prints its status.
 #![tactic(auto)]
 
-mod files;
 mod rounds;
 mod run;
-mod script;
 mod top;
-mod words;
 
+use dw_input::words_given;
 use dw_io::{HostFiles, HostSink};
 use dw_script::Status;
-use dw_value::Text;
-use std::env;
-use std::io::ErrorKind;
 use std::process::ExitCode;
 use top::top;
 
@@ -45,22 +40,6 @@ fn answer(rt: HostRuntime) -> Status {
         ),
         Err(status) => status,
     }
-}
-
-/// The words after the program's name. One that is not UTF-8 is no name.
-fn words_given(rt: HostRuntime) -> Result<Vec<Text>, Status> {
-    let args = match env::args(&rt) {
-        Ok(args) => args,
-        Err(error) if error.kind() == ErrorKind::OutOfMemory => return Err(Status::Memory),
-        Err(_) => return Err(Status::Usage),
-    };
-    let mut words = Vec::new(rt.alloc());
-    for word in args.skip(1) {
-        if words.push(Text::from_string(word)).is_err() {
-            return Err(Status::Memory);
-        }
-    }
-    Ok(words)
 }
 
 #[cfg(test)]

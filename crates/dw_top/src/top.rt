@@ -6,14 +6,15 @@ ghost use Rattle.dw_journal.specs.declared.Journal.{Journal as Events};
 ghost use Rattle.dw_journal.specs.Worlds.{AreShort, session_count};
 ghost use Rattle.dw_print.specs.Report.{report};
 ghost use Rattle.dw_engine.specs.EngineInvariant.{HaveNoVacuum};
-ghost use Rattle.dw_top.specs.Words.{have_form};
-ghost use Rattle.dw_top.specs.Due.{due, due_of_names, due_of_bytes, MayAnswer, MayRejectMoves, ComesBefore, ComesOfBytes};
-ghost use Rattle.dw_top.specs.Run.{IsRun, givens_of, bytes_under, world_of, world_under, world_in, moves_of, moves_read, moves_in};
+ghost use Rattle.dw_input.specs.Words.{have_form};
+ghost use Rattle.dw_input.specs.Files.{bytes_under};
+ghost use Rattle.dw_input.specs.Scripts.{givens_of, world_of, world_under};
+ghost use Rattle.dw_input.specs.Statuses.{MayAnswer, ComesBefore, ComesOfBytes};
+ghost use Rattle.dw_top.specs.Due.{due, due_of_names, due_of_bytes, MayRejectMoves};
+ghost use Rattle.dw_top.specs.Run.{IsRun, world_in, moves_of, moves_read, moves_in};
 
-use crate::files::{read_file, read_files};
 use crate::run::run_scripts;
-use crate::script::read_scripts;
-use crate::words::names;
+use dw_input::{MAX_SCRIPT, names, read_file, read_files, read_scripts};
 use dw_io::{Files, Sink, write_whole};
 use dw_journal::World;
 use dw_model::FileMap;
@@ -86,7 +87,7 @@ fn prepare<F: Files>(
         (journal : Events) × IsRun (world_under scripts.now h) (moves_read (length scripts.now) (bytes_under h schedule.now)) journal
         × (bytes ≡ report (world_under scripts.now h) journal)) }
 {
-    let moves = read_file(alloc, files, schedule, 0)?;
+    let moves = read_file(alloc, files, schedule, MAX_SCRIPT, 0)?;
     let statements = read_files(alloc, files, scripts, moves.len())?;
     report_of(alloc, scripts, moves.as_slice(), statements.as_slice())
 }

@@ -1,0 +1,4 @@
+pub mod Words
+pub mod Files
+pub mod Scripts
+pub mod Statuses
