@@ -150,3 +150,17 @@ pub greatest_is : (k n : ℕ) (bs : List ℕ) → k ≤ 16 → bs ≡ replicate 
 greatest_is k n bs le is e =
     let cut : take k bs ≡ replicate k 255 = ap (take k) is ∙ take-replicate k 16 255 le in
     rw (e, cut) (greatest_bytes k)
+
+-- eight bytes, each by its place
+pub eight_bytes : (bs : List ℕ) → 8 ≤ length bs → length bs < 9
+    → get_or bs 0 0 ∷ get_or bs 1 0 ∷ get_or bs 2 0 ∷ get_or bs 3 0 ∷ get_or bs 4 0 ∷ get_or bs 5 0 ∷ get_or bs 6 0 ∷ get_or bs 7 0 ∷ [] ≡ bs
+eight_bytes [] least most = absurd (omega arith)
+eight_bytes (a ∷ []) least most = absurd (omega arith)
+eight_bytes (a ∷ b ∷ []) least most = absurd (omega arith)
+eight_bytes (a ∷ b ∷ c ∷ []) least most = absurd (omega arith)
+eight_bytes (a ∷ b ∷ c ∷ d ∷ []) least most = absurd (omega arith)
+eight_bytes (a ∷ b ∷ c ∷ d ∷ e ∷ []) least most = absurd (omega arith)
+eight_bytes (a ∷ b ∷ c ∷ d ∷ e ∷ f ∷ []) least most = absurd (omega arith)
+eight_bytes (a ∷ b ∷ c ∷ d ∷ e ∷ f ∷ g ∷ []) least most = absurd (omega arith)
+eight_bytes (a ∷ b ∷ c ∷ d ∷ e ∷ f ∷ g ∷ h ∷ []) least most = refl
+eight_bytes (a ∷ b ∷ c ∷ d ∷ e ∷ f ∷ g ∷ h ∷ more ∷ bytes) least most = absurd (omega arith)

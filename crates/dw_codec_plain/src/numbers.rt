@@ -1,6 +1,6 @@
 //! Numbers of one, two, four, eight or sixteen bytes, in two's complement, least byte first.
 
-ghost use Rattle.std.specs.Prelude.{◌≡◌, ◌≤◌, ◌<◌, ◌-◌, ◌^◌, ◌++◌, ◌≤ℤ◌, ◌↔◌, ℤ, pos, neg_ℤ, length, take, replicate, IsTrue, OnOk};
+ghost use Rattle.std.specs.Prelude.{◌≡◌, [], ◌∷◌, ◌≤◌, ◌<◌, ◌-◌, ◌^◌, ◌++◌, ◌≤ℤ◌, ◌↔◌, ℤ, pos, neg_ℤ, length, take, replicate, IsTrue, OnOk};
 ghost use Rattle.dw_codec_plain.specs.Numbers.{IsWidth, half, FitsWidth, natural_of, number, IsNumberWithin};
 ghost use Rattle.dw_codec_plain.specs.Spelling.{Begins, IsLongestFront};
 
@@ -40,7 +40,7 @@ pub fn fits_width(width: u8, value: i128) -> bool
     least_number(width) <= value && value <= greatest_number(width)
 }
 
-// At most sixteen bytes, with zeros behind them.
+/// At most sixteen bytes, with zeros after them.
 fn padded(bytes: &[u8]) -> [u8; 16]
     requires { length bytes.now ≤ 16 }
     ensures { result ≡ bytes.now ++ replicate (16 - length bytes.now) 0 }
@@ -55,7 +55,34 @@ pub fn natural(bytes: &[u8]) -> u128
     requires { length bytes.now ≤ 16 }
     ensures { result ≡ natural_of bytes.now }
 {
-    u128::from_le_bytes(padded(bytes))
+    match bytes {
+        [a] => u128::from(*a),
+        [a, b] => natural_of_two(*a, *b),
+        [a, b, c, d] => natural_of_four(*a, *b, *c, *d),
+        [a, b, c, d, e, f, g, h] => natural_of_eight(*a, *b, *c, *d, *e, *f, *g, *h),
+        _ => u128::from_le_bytes(padded(bytes)),
+    }
+}
+
+/// The natural number that two bytes are, least first.
+fn natural_of_two(a: u8, b: u8) -> u128
+    ensures { result ≡ natural_of (a ∷ b ∷ []) }
+{
+    u128::from(u16::from_le_bytes([a, b]))
+}
+
+/// The natural number that four bytes are, least first.
+fn natural_of_four(a: u8, b: u8, c: u8, d: u8) -> u128
+    ensures { result ≡ natural_of (a ∷ b ∷ c ∷ d ∷ []) }
+{
+    u128::from(u32::from_le_bytes([a, b, c, d]))
+}
+
+/// The natural number that eight bytes are, least first.
+fn natural_of_eight(a: u8, b: u8, c: u8, d: u8, e: u8, f: u8, g: u8, h: u8) -> u128
+    ensures { result ≡ natural_of (a ∷ b ∷ c ∷ d ∷ e ∷ f ∷ g ∷ h ∷ []) }
+{
+    u128::from(u64::from_le_bytes([a, b, c, d, e, f, g, h]))
 }
 
 /// The number that the first `width` bytes are.
@@ -83,7 +110,7 @@ pub fn push_number(out: &mut Vec<u8>, width: u8, value: i128) -> Result<(), Allo
     out.extend_from_slice(&bytes[..usize::from(width)])
 }
 
-// Whether the bytes are the number, in as many bytes, of some value from `low` to `high`.
+/// Whether the bytes are the number, in as many bytes, of some value from `low` to `high`.
 fn is_number_within(low: i128, high: i128, bytes: &[u8]) -> bool
     requires order { low ≤ℤ high }
     requires most { length bytes.now ≤ 16 }
