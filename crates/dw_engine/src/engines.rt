@@ -43,7 +43,9 @@ impl Model for Engine {
 /// What a run leaves: its journal, and the committed tables.
 #[derive(Debug, Drop)]
 pub struct Ran {
+    /// The journal, which is legal.
     pub journal: Journal,
+    /// The committed tables after its last event.
     pub database: Database,
 }
 

@@ -22,6 +22,7 @@ pub enum Form {
 /// A token of a text.
 #[derive(Debug, Drop)]
 pub struct Token {
+    /// What kind of token it is.
     pub form: Form,
     /// The token's bytes as they stand in the text it was read from, quotes and upper case too.
     pub text: Text,

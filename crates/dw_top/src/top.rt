@@ -38,12 +38,15 @@ use std::alloc::{AllocError, Global};
 /// `files` or of `out` rose in this call. After a `WriteFault` the sink has a part of the report from the front; after
 /// any other status but `Ok` it has what it had.
 pub fn top<F: Files, S: Sink>(alloc: Global, words: &[Text], files: &mut F, out: &mut S) -> Status
+    // Words.
     ensures usage { (result ≡ Status.Usage) ↔ (have_form words.now ≡ false) }
+    // Files, the sink and their faults.
     ensures keeps { F.held files.new ≡ F.held files.old }
     ensures files_count { F.faults files.old ≤ F.faults files.new }
     ensures out_count { S.faults out.old ≤ S.faults out.new }
     ensures read { result ≡ Status.ReadFault → Rose (F.faults files.old) (F.faults files.new) }
     ensures write { result ≡ Status.WriteFault → Rose (S.faults out.old) (S.faults out.new) }
+    // The status that is due, and the report.
     ensures untouched { result ≢ Status.Ok → result ≢ Status.WriteFault → S.has out.new ≡ S.has out.old }
     ensures due { (h : Held) → F.held files.old ≡ Some h → MayAnswer (due words.now h) result }
     ensures headline { (h : Held) → F.held files.old ≡ Some h → result ≡ Status.Ok →
