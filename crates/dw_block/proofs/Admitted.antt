@@ -1,4 +1,4 @@
--- A value that a column admits is a value of its kind, as the column holds it.
+-- A value of its kind that a column admits is a value of its kind, as the column holds it.
 use Rattle.std.specs.Prelude.{nat_le}
 use Rattle.std.proofs.Common.{◌≡◌, ℕ, ◌==◌, Bool, true, false, List, [], ◌∷◌, length, Ok, Err, if◌then◌else◌, refl, sym, ap, subst, ◌∙◌, IsTrue, ℤ, true≢false}
 use Rattle.dw_value.specs.declared.kinds.Kind.{Kind}
@@ -7,7 +7,10 @@ use Rattle.dw_value.specs.declared.kinds.Misfit.TheVariants.{Range, Length}
 use Rattle.dw_value.specs.declared.values.Value.{Value}
 use Rattle.dw_value.specs.declared.values.Value.TheVariants.{Number, Words, Day, Truth, Null}
 use Rattle.dw_value.specs.Texts.{before_text, without_end_spaces}
-use Rattle.dw_value.specs.Values.{goes_with, holds_number, text_within, admitted}
+use Rattle.dw_value.specs.Values.{goes_with, holds_number, text_within, held}
+use Rattle.dw_value.specs.Kinds.{scale_of}
+use Rattle.dw_value.specs.Assignment.{admitted}
+use Rattle.dw_value.proofs.Rescaling.{rescaled_same}
 use Rattle.dw_block.specs.Blocks.{IsValueOf}
 
 blank : (byte : ℕ) (t : Bool) → (byte == 32) ≡ t → without_end_spaces (if t then [] else byte ∷ []) ≡ (if t then [] else byte ∷ [])
@@ -37,9 +40,10 @@ same_kind kind v w is of = subst (IsValueOf kind) (sym is) of
 no : (kind : Kind) (w : Value) → false ≡ true → IsValueOf kind w
 no kind w e = absurd (true≢false (sym e))
 
-pub IsValueOf-admitted : (kind : Kind) (v w : Value) → IsTrue (goes_with kind v) → admitted kind v ≡ Ok w → IsValueOf kind w
+pub IsValueOf-admitted : (kind : Kind) (v w : Value) → IsTrue (goes_with kind v) → admitted kind v kind ≡ Ok w → IsValueOf kind w
 IsValueOf-admitted kind (Number n) w goes e =
-    let r = number_by (holds_number kind n) n w e in
+    let same : held kind (Number n) ≡ Ok w = ap (λ (m : ℤ). held kind (Number m)) (sym (rescaled_same (scale_of kind) n)) ∙ e in
+    let r = number_by (holds_number kind n) n w same in
     let of : IsValueOf kind (Number n) = record { goes = goes; held = ap (λ (t : Bool). if t then Ok (Number n) else Err Range) r.1 } in
     same_kind kind (Number n) w r.0 of
 IsValueOf-admitted (Char limit) (Words text) w goes e =

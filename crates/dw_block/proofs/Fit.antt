@@ -1,6 +1,6 @@
 -- The values of a kind fit the bytes of their kind.
 use Rattle.std.proofs.Common.{◌≡◌, ℕ, ◌^◌, ◌≤◌, ◌<◌, Bool, true, false, ◌&&◌, ℤ, pos, negsuc, Ok, Err, if◌then◌else◌, refl, sym, arith, true≢false, FitsSigned, w32, unsigned_abs}
-use Rattle.std.specs.Prelude.{int_le, nat_le, ◌≤ℤ◌}
+use Rattle.std.specs.Prelude.{int_le, nat_le, min, ◌≤ℤ◌}
 use Rattle.std.proofs.lemmas.Int.{ints}
 use Rattle.std.proofs.lemmas.Bool.{leb-true, ltb-true}
 use Rattle.dw_value.specs.declared.kinds.Kind.{Kind}
@@ -12,7 +12,8 @@ use Rattle.dw_value.specs.declared.values.Value.TheVariants.{Number, Day, Truth}
 use Rattle.dw_value.specs.Values.{is_within, holds_number}
 use Rattle.dw_value.proofs.Powers.{ten_below, ten_38}
 use Rattle.dw_codec_plain.specs.Numbers.{half, FitsWidth}
-use Rattle.dw_block.specs.Blocks.{width, IsKind, IsValueOf}
+use Rattle.dw_value.specs.Encodings.{width}
+use Rattle.dw_block.specs.Blocks.{IsKind, IsValueOf}
 
 -- a test that lets a value through
 test_holds : (t : Bool) (v : Value) (m : Misfit) → (if t then Ok v else Err m) ≡ Ok v → t ≡ true
@@ -58,12 +59,12 @@ unfolding half
 size_16 (pos k) lt = record { least = omega (arith, ints); greatest = omega (arith, ints) }
 size_16 (negsuc k) lt = record { least = omega (arith, ints); greatest = omega (arith, ints) }
 
-decimal_by : (precision : ℕ) (n : ℤ) (t : Bool) → nat_le precision 18 ≡ t → precision ≤ 38 → unsigned_abs n < 10 ^ precision → FitsWidth (if t then 8 else 16) n
+decimal_by : (precision : ℕ) (n : ℤ) (t : Bool) → nat_le precision 18 ≡ t → precision ≤ 38 → unsigned_abs n < 10 ^ min precision 38 → FitsWidth (if t then 8 else 16) n
 decimal_by precision n true e most lt =
-    let few : 10 ^ precision ≤ 10 ^ 18 = ten_below precision 18 (leb-true precision 18 e) in
+    let few : 10 ^ min precision 38 ≤ 10 ^ 18 = ten_below (min precision 38) 18 (omega (arith, leb-true precision 18 e)) in
     size_8 n (omega (arith, few, ten_18))
 decimal_by precision n false e most lt =
-    let few : 10 ^ precision ≤ 10 ^ 38 = ten_below precision 38 most in
+    let few : 10 ^ min precision 38 ≤ 10 ^ 38 = ten_below (min precision 38) 38 (omega arith) in
     size_16 n (omega (arith, few, ten_38))
 
 pub number_fits : (kind : Kind) (n : ℤ) → IsKind kind → IsValueOf kind (Number n) → FitsWidth (width kind) n
@@ -72,7 +73,7 @@ number_fits Int n is of = int_fits n (test_holds (holds_number Int n) (Number n)
 number_fits Big n is of = big_fits n (test_holds (holds_number Big n) (Number n) Range of.held)
 number_fits (Decimal precision scale) n is of =
     decimal_by precision n (nat_le precision 18) refl is
-    (ltb-true (unsigned_abs n) (10 ^ precision) (test_holds (holds_number (Decimal precision scale) n) (Number n) Range of.held))
+    (ltb-true (unsigned_abs n) (10 ^ min precision 38) (test_holds (holds_number (Decimal precision scale) n) (Number n) Range of.held))
 number_fits (Char limit) n is of = absurd (true≢false (sym of.goes))
 number_fits (Varchar limit) n is of = absurd (true≢false (sym of.goes))
 number_fits Date n is of = absurd (true≢false (sym of.goes))

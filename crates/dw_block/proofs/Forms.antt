@@ -23,7 +23,8 @@ use Rattle.dw_codec_runs.proofs.RunsTexts.{text_code}
 use Rattle.std.specs.Prelude.{nat_le}
 use Rattle.dw_value.specs.declared.kinds.Kind.{Kind}
 use Rattle.dw_value.specs.declared.kinds.Kind.TheVariants.{Small, Int, Big, Decimal, Char, Varchar, Date, Bool as Boolean}
-use Rattle.dw_block.specs.Blocks.{width, encoded_numbers, encoded_texts}
+use Rattle.dw_value.specs.Encodings.{width}
+use Rattle.dw_block.specs.Blocks.{encoded_numbers, encoded_texts}
 
 raw_form : (width : ℕ) (values others : List ℤ) → IsWidth width → All (FitsWidth width) values → All (FitsWidth width) others → raw width values ≡ raw width others → values ≡ others
 raw_form width values others is fits fits' same =

@@ -19,7 +19,8 @@ use Rattle.dw_codec_plain.specs.Encodings.{IsText}
 use Rattle.dw_block.specs.declared.zone.Zone.{Zone}
 use Rattle.dw_block.specs.Zones.{zone_of}
 use Rattle.dw_block.specs.Nulls.{null_len, null_bits}
-use Rattle.dw_block.specs.Blocks.{width, encoded_numbers, encoded_texts, items_bytes, block_bytes, IsValueOf, IsBlockText, number_in, text_in, numbers_of, texts_of, value_of}
+use Rattle.dw_value.specs.Encodings.{width}
+use Rattle.dw_block.specs.Blocks.{encoded_numbers, encoded_texts, items_bytes, block_bytes, IsValueOf, IsBlockText, number_in, text_in, numbers_of, texts_of, value_of}
 use Rattle.dw_block.specs.Stored.{Spells, Content, IsPlaced}
 use Rattle.dw_block.proofs.Places.{null_is, some_number, some_text}
 use Rattle.dw_block.specs.Unique.{Values-set}

@@ -13,7 +13,8 @@ use Rattle.dw_value.specs.Values.{is_null, takes_texts}
 use Rattle.dw_codec_plain.specs.Encodings.{IsText}
 use Rattle.dw_block.specs.declared.zone.Zone.{Zone}
 use Rattle.dw_block.specs.Nulls.{null_bytes, null_len, null_bits, bit_at}
-use Rattle.dw_block.specs.Blocks.{width, encoded_numbers, encoded_texts, items_bytes, IsValueOf, IsBlockText, number_in, text_in, numbers_of, texts_of, value_of}
+use Rattle.dw_value.specs.Encodings.{width}
+use Rattle.dw_block.specs.Blocks.{encoded_numbers, encoded_texts, items_bytes, IsValueOf, IsBlockText, number_in, text_in, numbers_of, texts_of, value_of}
 use Rattle.dw_block.specs.Stored.{IsSpelled, Spells}
 use Rattle.dw_block.proofs.Places.{null_at, null_is, some_number, some_text}
 use Rattle.dw_block.proofs.Forms.{texts_form, numbers_form, IsWidth-width}

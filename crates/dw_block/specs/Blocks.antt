@@ -1,5 +1,5 @@
--- The bytes of a block, and which encodings a kind may have. The encodings are those of the Amazon Redshift guide
--- (compression encodings); the layout of their bytes is this project's own.
+-- The bytes of a block. The encodings are those of the Amazon Redshift guide (compression encodings); the layout of
+-- their bytes is this project's own.
 use Rattle.std.specs.Prelude.{◌≡◌, ℕ, ◌≤◌, nat_le, nat_lt, ℤ, pos, Bool, true, false, not, ◌&&◌, Option, None, Some, Ok, List, ◌++◌, IsTrue, IsUtf8, if◌then◌else◌}
 use Rattle.std.specs.List.{filter_map}
 use Rattle.std.specs.Ordering.{int_eq}
@@ -9,39 +9,13 @@ use Rattle.dw_value.specs.declared.kinds.Encoding.{Encoding}
 use Rattle.dw_value.specs.declared.kinds.Encoding.TheVariants.{Raw, Bytedict, Delta, Delta32k, Mostly8, Mostly16, Mostly32, Runlength}
 use Rattle.dw_value.specs.declared.values.Value.{Value}
 use Rattle.dw_value.specs.declared.values.Value.TheVariants.{Number, Words, Day, Truth}
-use Rattle.dw_value.specs.Values.{takes_numbers, takes_texts, goes_with, admitted}
+use Rattle.dw_value.specs.Values.{takes_texts, goes_with, held}
+use Rattle.dw_value.specs.Encodings.{width}
 use Rattle.dw_codec_plain.specs.Encodings.{raw, raw_texts, mostly, IsText}
 use Rattle.dw_codec_delta.specs.Delta.{delta}
 use Rattle.dw_codec_runs.specs.Runs.{runlength, runlength_texts}
 use Rattle.dw_codec_runs.specs.Dictionary.{bytedict, bytedict_texts}
 use Rattle.dw_block.specs.Nulls.{null_bits}
-
--- how many bytes the numbers of a kind take: those of the guide, and one for a truth
-abbrev pub width : Kind → ℕ
-width Small = 2
-width Int = 4
-width Big = 8
-width (Decimal precision scale) = if nat_le precision 18 then 8 else 16
-width Date = 4
-width kind = 1
-
--- whether a kind's numbers may be spelled by their differences
-abbrev pub has_steps : Kind → Bool
-has_steps Date = true
-has_steps kind = takes_numbers kind
-
--- whether a column of this kind may have the encoding: RAW and RUNLENGTH for all, BYTEDICT for all but truths, the
--- others where their short forms are shorter than the kind's numbers
-abbrev pub allows : Encoding → Kind → Bool
-allows Raw kind = true
-allows Bytedict Boolean = false
-allows Bytedict kind = true
-allows Delta kind = has_steps kind
-allows Delta32k kind = has_steps kind && nat_lt 2 (width kind)
-allows Mostly8 kind = takes_numbers kind
-allows Mostly16 kind = takes_numbers kind && nat_lt 2 (width kind)
-allows Mostly32 kind = takes_numbers kind && nat_lt 4 (width kind)
-allows Runlength kind = true
 
 -- the kind is within its limits: 38 digits, 65,535 bytes
 abbrev pub IsKind : Kind → Type 0
@@ -53,7 +27,7 @@ IsKind kind = Unit {0}
 -- the value is NULL, or one that a column of the kind holds, as it holds it
 pub record IsValueOf (kind : Kind) (value : Value) : Type 0 where
   pub goes : IsTrue (goes_with kind value)
-  pub held : admitted kind value ≡ Ok value
+  pub held : held kind value ≡ Ok value
 
 -- a text that a block may hold
 pub record IsBlockText (text : List ℕ) : Type 0 where

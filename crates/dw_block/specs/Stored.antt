@@ -8,7 +8,8 @@ use Rattle.dw_codec_plain.specs.Numbers.{FitsWidth}
 use Rattle.dw_block.specs.declared.zone.Zone.{Zone}
 use Rattle.dw_block.specs.Zones.{zone_of}
 use Rattle.dw_block.specs.Nulls.{null_bits}
-use Rattle.dw_block.specs.Blocks.{width, IsValueOf, IsBlockText, numbers_of, texts_of, block_bytes}
+use Rattle.dw_value.specs.Encodings.{width}
+use Rattle.dw_block.specs.Blocks.{IsValueOf, IsBlockText, numbers_of, texts_of, block_bytes}
 
 -- what a block keeps of its values: numbers of the kind's width, or texts
 pub record IsSpelled (kind : Kind) (values : List Value) : Type 0 where

@@ -5,14 +5,15 @@ ghost use Rattle.dw_codec_plain.specs.Numbers.{IsWidth, FitsWidth};
 ghost use Rattle.dw_codec_plain.specs.Spelling.{IsSpelling};
 ghost use Rattle.dw_codec_plain.specs.Encodings.{IsText};
 ghost use Rattle.dw_block.specs.Zones.{zone_of};
-ghost use Rattle.dw_block.specs.Blocks.{width, allows, IsKind, IsValueOf, IsBlockText, encoded_numbers, encoded_texts, items_bytes, block_bytes};
+ghost use Rattle.dw_value.specs.Encodings.{width, allows};
+ghost use Rattle.dw_block.specs.Blocks.{IsKind, IsValueOf, IsBlockText, encoded_numbers, encoded_texts, items_bytes, block_bytes};
 ghost use Rattle.dw_block.specs.Stored.{Content, IsSpelled};
 ghost use Rattle.dw_block.specs.Unique.{Content-prop};
 
 use crate::encodings::{
     decode, decode_texts, encode, encode_texts, numbers_have_one_form, texts_have_one_form,
 };
-use crate::kinds::{numbers_of, takes_texts, texts_of, width};
+use crate::kinds::{numbers_of, texts_of, width};
 use crate::nulls::{null_bits, null_len};
 use crate::placing::{place_numbers, place_texts};
 use crate::zone::{Zone, zone_of};
@@ -54,7 +55,7 @@ fn items_bytes(
     ensures bytes { IfOk result (λ bytes. bytes.items ≡ items_bytes encoding kind values.now) }
     ensures spelled { OnOk result (IsSpelled kind values.now) }
 {
-    if takes_texts(kind) {
+    if kind.takes_texts() {
         let texts = texts_of(alloc, kind, values)?;
         encode_texts(alloc, encoding, texts.as_slice())
     } else {
@@ -108,7 +109,7 @@ fn read_texts(
 
 impl Block {
     /// The block of the values, which stand as a column of the kind holds them, on memory of `alloc`. The kind has at
-    /// most 38 digits or 65,535 bytes, and may have the encoding (see `allows`); there are at most 4,096 values. A
+    /// most 38 digits or 65,535 bytes, and may have the encoding (see `dw_value::allows`); there are at most 4,096 values. A
     /// zone's texts are copied on the allocators of the values.
     pub fn make(
         alloc: Global,
@@ -161,7 +162,7 @@ impl Block {
         let count = self.count as usize;
         let (nulls, items) = self.bytes.as_slice().split_at(null_len(count));
         let present = self.count - self.zone.nulls;
-        if takes_texts(self.kind) {
+        if self.kind.takes_texts() {
             let texts = read_texts(alloc, self.encoding, items, present)?;
             place_texts(alloc, self.kind, nulls, texts.as_slice(), count)
         } else {

@@ -1,68 +1,19 @@
 //! What the blocks of a kind are made of.
 ghost use Rattle.std.specs.Prelude.{◌≡◌, ◌≤◌, length, All, IfOk, IfSome};
-ghost use Rattle.dw_value.specs.Values.{takes_numbers, takes_texts};
 ghost use Rattle.dw_codec_plain.specs.Numbers.{IsWidth, FitsWidth};
-ghost use Rattle.dw_block.specs.Blocks.{width, has_steps, allows, IsKind, IsValueOf, IsBlockText, number_in, numbers_of, texts_of, value_of};
+ghost use Rattle.dw_value.specs.Encodings.{width};
+ghost use Rattle.dw_block.specs.Blocks.{IsKind, IsValueOf, IsBlockText, number_in, numbers_of, texts_of, value_of};
 
 use dw_codec_plain::Bytes;
-use dw_value::{Encoding, Kind, Text, Value};
+use dw_value::{Kind, Text, Value};
 use std::alloc::{AllocError, Global};
-
-/// Whether a column of this kind takes texts.
-pub fn takes_texts(kind: Kind) -> bool
-    ensures { result ≡ takes_texts kind }
-{
-    matches!(kind, Kind::Char { .. } | Kind::Varchar { .. })
-}
-
-/// Whether a column of this kind takes numbers.
-fn takes_numbers(kind: Kind) -> bool
-    ensures { result ≡ takes_numbers kind }
-{
-    matches!(
-        kind,
-        Kind::Small | Kind::Int | Kind::Big | Kind::Decimal { .. }
-    )
-}
-
-/// Whether a kind's numbers may be spelled by their differences.
-fn has_steps(kind: Kind) -> bool
-    ensures { result ≡ has_steps kind }
-{
-    matches!(kind, Kind::Date) || takes_numbers(kind)
-}
 
 /// How many bytes the numbers of a kind take.
 pub fn width(kind: Kind) -> u8
     ensures value { result ≡ width kind }
     ensures is { IsWidth result }
 {
-    match kind {
-        Kind::Small => 2,
-        Kind::Int | Kind::Date => 4,
-        Kind::Big => 8,
-        Kind::Decimal { precision, .. } if precision <= 18 => 8,
-        Kind::Decimal { .. } => 16,
-        Kind::Char { .. } | Kind::Varchar { .. } | Kind::Bool => 1,
-    }
-}
-
-/// Whether a column of this kind may have the encoding, as the Amazon Redshift guide says it: RAW and RUNLENGTH for all
-/// kinds; BYTEDICT for all but BOOLEAN; DELTA for SMALLINT, INTEGER, BIGINT, DECIMAL and DATE, and DELTA32K for these
-/// but SMALLINT; MOSTLY8 for SMALLINT, INTEGER, BIGINT and DECIMAL, MOSTLY16 for these but SMALLINT, and MOSTLY32 for
-/// BIGINT and DECIMAL. It takes no memory.
-pub fn allows(encoding: Encoding, kind: Kind) -> bool
-    ensures { result ≡ allows encoding kind }
-{
-    match encoding {
-        Encoding::Raw | Encoding::Runlength => true,
-        Encoding::Bytedict => !matches!(kind, Kind::Bool),
-        Encoding::Delta => has_steps(kind),
-        Encoding::Delta32k => has_steps(kind) && width(kind) > 2,
-        Encoding::Mostly8 => takes_numbers(kind),
-        Encoding::Mostly16 => takes_numbers(kind) && width(kind) > 2,
-        Encoding::Mostly32 => takes_numbers(kind) && width(kind) > 4,
-    }
+    kind.width()
 }
 
 /// A value of the kind as a number, where it is one, a day or a truth.

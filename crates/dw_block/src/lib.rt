@@ -10,7 +10,6 @@ mod placing;
 mod zone;
 
 pub use block::Block;
-pub use kinds::allows;
 pub use laws::no_match_is_lost;
 pub use zone::{Test, Zone, may_match};
 

@@ -3,7 +3,8 @@ ghost use Rattle.std.specs.Prelude.{◌≡◌, ◌≤◌, ◌*◌, ℕ, ℤ, Lis
 ghost use Rattle.dw_value.specs.declared.values.Value.{Value as Item};
 ghost use Rattle.dw_value.specs.Values.{takes_texts};
 ghost use Rattle.dw_codec_plain.specs.Numbers.{FitsWidth};
-ghost use Rattle.dw_block.specs.Blocks.{width, IsBlockText, numbers_of, texts_of};
+ghost use Rattle.dw_value.specs.Encodings.{width};
+ghost use Rattle.dw_block.specs.Blocks.{IsBlockText, numbers_of, texts_of};
 ghost use Rattle.dw_block.specs.Stored.{IsPlaced};
 
 use crate::kinds::value_of;

@@ -3,7 +3,7 @@ ghost use Rattle.std.specs.Prelude.{All, IfOk, IfSome};
 ghost use Rattle.dw_block.specs.Blocks.{IsKind, IsValueOf};
 
 use super::*;
-use dw_value::{Comparison, Encoding, Kind, List, Text, Value, admit, goes_with};
+use dw_value::{Comparison, Encoding, Kind, List, Text, Value, admit, allows, goes_with};
 use std::alloc::{AllocError, Global};
 use std::process::Abort;
 use std::test::Fail;
@@ -15,7 +15,7 @@ fn held_one(kind: Kind, value: Value) -> Option<Value>
     if !goes_with(kind, &value) {
         return None;
     }
-    match admit(kind, value) {
+    match admit(kind, value, kind) {
         Ok(held) => Some(held),
         Err(_) => None,
     }

@@ -6,7 +6,7 @@ ghost use Rattle.std.specs.Ordering.{flip_args};
 ghost use Rattle.dw_value.specs.Values.{value_cmp, is_null};
 ghost use Rattle.dw_block.specs.Zones.{earlier, least_of, greatest_of, zone_of, may_hold, may_match, HasScale};
 
-use dw_value::{Comparison, Value, compare, compare_at};
+use dw_value::{Comparison, Value, compare};
 use std::alloc::AllocError;
 use std::cmp::Ordering;
 
@@ -56,7 +56,7 @@ fn lesser<'a>(least: Option<&'a Value>, value: &'a Value) -> Option<&'a Value>
         return least;
     }
     match least {
-        Some(found) if compare(value, found).is_ge() => least,
+        Some(found) if value.cmp(found).is_ge() => least,
         _ => Some(value),
     }
 }
@@ -80,7 +80,7 @@ fn greater<'a>(greatest: Option<&'a Value>, value: &'a Value) -> Option<&'a Valu
         return greatest;
     }
     match greatest {
-        Some(found) if compare(found, value).is_ge() => greatest,
+        Some(found) if found.cmp(value).is_ge() => greatest,
         _ => Some(value),
     }
 }
@@ -156,8 +156,8 @@ pub fn may_match(zone: &Zone, zone_scale: u8, test: &Test) -> bool
         } => match (&zone.least, &zone.greatest) {
             (Some(least), Some(greatest)) if !value.is_null() => may_hold(
                 *comparison,
-                compare_at(least, zone_scale, value, *scale),
-                compare_at(greatest, zone_scale, value, *scale),
+                compare(least, zone_scale, value, *scale),
+                compare(greatest, zone_scale, value, *scale),
             ),
             _ => false,
         },

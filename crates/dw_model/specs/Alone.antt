@@ -1,10 +1,14 @@
 -- A statement run alone on a database: its answer with the next database, or its refusal. Its names and kinds are
 -- bound to the definitions alone, and what is bound is carried out on the rows and the files alone.
 use Rattle.std.specs.Prelude.{ℕ, List, [], ◌∷◌, map, length, Option, Some, None, Result, Ok, Err}
+use Rattle.dw_value.specs.declared.kinds.Kind.{Kind}
+use Rattle.dw_value.specs.declared.kinds.Kind.TheVariants as kinds
 use Rattle.dw_value.specs.declared.kinds.Misfit.{Misfit}
 use Rattle.dw_value.specs.declared.values.Value.{Value}
+use Rattle.dw_value.specs.declared.values.Value.TheVariants.{Number, Words, Day, Truth, Null}
 use Rattle.dw_value.specs.declared.values.Row.{Row}
-use Rattle.dw_value.specs.Values.{admitted}
+use Rattle.dw_value.specs.Kinds.{literal_kind}
+use Rattle.dw_value.specs.Assignment.{admitted}
 use Rattle.dw_model.specs.declared.refusals.Refusal.{Refusal}
 use Rattle.dw_model.specs.declared.refusals.Refusal.TheVariants.{Range}
 use Rattle.dw_model.specs.declared.statements.Statement.{Statement}
@@ -32,12 +36,21 @@ with_value (Err misfit) values = None
 with_value (Ok value) None = None
 with_value (Ok value) (Some values) = Some (value ∷ values)
 
--- each value as its column holds it; none where one of them doesn't fit
+-- the kind of a literal: a number's by its size, where literals are whole so far, the longest text, a date or a truth;
+-- NULL is an INTEGER where nothing else decides
+abbrev pub kind_of_literal : Value → Kind
+kind_of_literal (Number n) = literal_kind n 0
+kind_of_literal (Words text) = kinds.Varchar 65535
+kind_of_literal (Day n) = kinds.Date
+kind_of_literal (Truth b) = kinds.Bool
+kind_of_literal Null = kinds.Int
+
+-- each literal as its column holds it; none where one of them doesn't fit
 abbrev pub admitted_values : List Column → List Value → Option (List Value)
 admitted_values [] values = Some []
 admitted_values (column ∷ columns) [] = Some []
 admitted_values (column ∷ columns) (value ∷ values) =
-    with_value (admitted column.kind value) (admitted_values columns values)
+    with_value (admitted column.kind value (kind_of_literal value)) (admitted_values columns values)
 
 -- a row in front of the others, where all of them fit
 abbrev pub with_row : Option (List Value) → Option (List Row) → Option (List Row)

@@ -6,9 +6,11 @@ use Rattle.dw_value.specs.declared.values.Value.{Value}
 use Rattle.dw_value.specs.declared.values.Value.TheVariants.{Null}
 use Rattle.dw_value.specs.declared.values.Row.{Row}
 use Rattle.dw_value.specs.declared.values.Field.{Field}
+use Rattle.dw_value.specs.declared.kinds.Kind.TheVariants as kinds
 use Rattle.dw_value.specs.declared.kinds.Truth.{Truth}
 use Rattle.dw_value.specs.declared.kinds.Truth.TheVariants as truths
-use Rattle.dw_value.specs.Values.{truth_of, row_cmp, shown}
+use Rattle.dw_value.specs.Values.{truth_of, row_cmp}
+use Rattle.dw_value.specs.Printed.{shown}
 use Rattle.dw_value.specs.Sorted.{sort}
 use Rattle.dw_model.specs.declared.statements.Query.{Query}
 use Rattle.dw_model.specs.declared.statements.Test.{Test}
@@ -28,11 +30,11 @@ is_true truths.False = false
 is_true truths.Unknown = false
 is_true truths.True = true
 
--- whether a row passes the test
+-- whether a row passes the test; numbers are whole so far, of the scale 0
 abbrev pub passes : List Column → Option Test → Row → Bool
 passes columns None row = true
 passes columns (Some test) row =
-    is_true (truth_of test.comparison (value_in columns row.values test.column) test.literal)
+    is_true (truth_of test.comparison (value_in columns row.values test.column) 0 test.literal 0)
 
 -- the items of a row
 abbrev pub items_of : List Column → List (List ℕ) → Row → Row
@@ -43,6 +45,6 @@ abbrev pub selected : Query → List Column → List Row → List Row
 selected query columns rows =
     sort row_cmp (map (items_of columns query.items) (filter (passes columns query.keep) rows))
 
--- the answer's rows as they are printed
+-- the answer's rows as they are printed; numbers are whole so far
 abbrev pub fields_of : Row → List Field
-fields_of row = map shown row.values
+fields_of row = map (shown kinds.Big) row.values

@@ -1,11 +1,13 @@
 -- The loop over the values of a row, one turn at a time.
-use Rattle.std.proofs.Common.{◌≡◌, ℕ, ◌+◌, ◌<◌, Bool, true, false, ◌&&◌, List, [], ◌∷◌, ◌++◌, length, get_or, drop, Option, Some, None, option_map, Ok, refl, sym, ap, ◌∙◌}
+use Rattle.std.proofs.Common.{◌≡◌, ℕ, ◌+◌, ◌<◌, Bool, true, false, ◌&&◌, List, [], ◌∷◌, ◌++◌, length, get_or, drop, Option, Some, None, option_map, Ok, Err, refl, sym, ap, ◌∙◌}
 use Rattle.std.proofs.lemmas.Bool.{false≢true}
 use Rattle.std.proofs.lemmas.List.{at_drop_more, append_assoc}
+use Rattle.dw_value.specs.declared.kinds.Misfit.{Misfit}
 use Rattle.dw_value.specs.declared.values.Value.{Value}
-use Rattle.dw_value.specs.Values.{admitted, goes_with}
+use Rattle.dw_value.specs.Values.{goes_with}
+use Rattle.dw_value.specs.Assignment.{admitted}
 use Rattle.dw_model.specs.declared.tables.Column.{Column}
-use Rattle.dw_model.specs.Alone.{admitted_values, with_value}
+use Rattle.dw_model.specs.Alone.{admitted_values, kind_of_literal, with_value}
 use Rattle.dw_model.specs.Binding.{row_goes_with}
 
 -- a list in front of what is left, if all of that fits
@@ -33,13 +35,24 @@ module _ (columns : List Column) (values : List Value) (i : ℕ) (column : Colum
       and_right (goes_with column.kind value) (row_goes_with (drop (i + 1) columns) (drop (i + 1) values)) here
 
   -- a value that fits joins those in front
-  pub values_turn : (front : List Value) (held : Value) → Ok held ≡ admitted column.kind value
+  pub values_turn : (front : List Value) (held : Value) → Ok held ≡ admitted column.kind value (kind_of_literal value)
       → ahead front (admitted_values (drop i columns) (drop i values)) ≡ ahead (front ++ held ∷ []) (admitted_values (drop (i + 1) columns) (drop (i + 1) values))
   values_turn front held fits =
       ap (ahead front)
       (at_drop_more (λ cs. admitted_values cs (drop i values)) columns i column lc
       ∙ at_drop_more (λ vs. admitted_values (get_or columns i column ∷ drop (i + 1) columns) vs) values i value lv
-      ∙ ap (λ (x : Column). with_value (admitted x.kind (get_or values i value)) (admitted_values (drop (i + 1) columns) (drop (i + 1) values))) (sym ic)
-      ∙ ap (λ (x : Value). with_value (admitted column.kind x) (admitted_values (drop (i + 1) columns) (drop (i + 1) values))) (sym iv)
+      ∙ ap (λ (x : Column). with_value (admitted x.kind (get_or values i value) (kind_of_literal (get_or values i value))) (admitted_values (drop (i + 1) columns) (drop (i + 1) values))) (sym ic)
+      ∙ ap (λ (x : Value). with_value (admitted column.kind x (kind_of_literal x)) (admitted_values (drop (i + 1) columns) (drop (i + 1) values))) (sym iv)
       ∙ ap (λ r. with_value r (admitted_values (drop (i + 1) columns) (drop (i + 1) values))) (sym fits))
       ∙ ahead_value front held (admitted_values (drop (i + 1) columns) (drop (i + 1) values))
+
+  -- a value that doesn't fit stops the row
+  pub values_stop : (front : List Value) (misfit : Misfit) → Err misfit ≡ admitted column.kind value (kind_of_literal value)
+      → ahead front (admitted_values (drop i columns) (drop i values)) ≡ None
+  values_stop front misfit fits =
+      ap (ahead front)
+      (at_drop_more (λ cs. admitted_values cs (drop i values)) columns i column lc
+      ∙ at_drop_more (λ vs. admitted_values (get_or columns i column ∷ drop (i + 1) columns) vs) values i value lv
+      ∙ ap (λ (x : Column). with_value (admitted x.kind (get_or values i value) (kind_of_literal (get_or values i value))) (admitted_values (drop (i + 1) columns) (drop (i + 1) values))) (sym ic)
+      ∙ ap (λ (x : Value). with_value (admitted column.kind x (kind_of_literal x)) (admitted_values (drop (i + 1) columns) (drop (i + 1) values))) (sym iv)
+      ∙ ap (λ r. with_value r (admitted_values (drop (i + 1) columns) (drop (i + 1) values))) (sym fits))

@@ -34,7 +34,7 @@ value_in-place (column ∷ columns) (value ∷ values) name = value_in_by column
 
 passes-place : (columns : List Column) (keep : Option Test) (row : Row) → passes columns keep row ≡ passes_at (tested_place columns keep) keep row
 passes-place columns None row = refl
-passes-place columns (Some test) row = ap (λ v. is_true (truth_of test.comparison v test.literal)) (value_in-place columns row.values test.column)
+passes-place columns (Some test) row = ap (λ v. is_true (truth_of test.comparison v 0 test.literal 0)) (value_in-place columns row.values test.column)
 
 items-place : (columns : List Column) (items : List (List ℕ)) (values : List Value) → map (value_in columns values) items ≡ map (value_at values) (map (place_of columns) items)
 items-place columns [] values = refl

@@ -35,4 +35,4 @@ tested_place columns (Some test) = place_of columns test.column
 -- whether a row passes the test, whose column stands at this place
 abbrev pub passes_at : Option ℕ → Option Test → Row → Bool
 passes_at place None row = true
-passes_at place (Some test) row = is_true (truth_of test.comparison (value_at row.values place) test.literal)
+passes_at place (Some test) row = is_true (truth_of test.comparison (value_at row.values place) 0 test.literal 0)

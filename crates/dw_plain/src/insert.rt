@@ -1,11 +1,11 @@
 //! INSERT of rows of literals.
 ghost use Rattle.std.specs.Prelude.{◌≡◌, length, IfOk, IsTrue};
-ghost use Rattle.dw_model.specs.Alone.{admitted_rows, insert_outcome};
+ghost use Rattle.dw_model.specs.Alone.{admitted_rows, insert_outcome, kind_of_literal};
 ghost use Rattle.dw_model.specs.Binding.{rows_go_with, row_goes_with};
 ghost use Rattle.dw_plain.specs.Admission.{admitted_row};
 
 use dw_model::{Answer, Change, Column, Outcome, Refusal, Word};
-use dw_value::{List, Row, Text, admit};
+use dw_value::{Kind, List, Row, Text, Value, admit, literal_kind};
 use std::alloc::{AllocError, Global};
 
 /// What INSERT into a table of these columns comes to, once its kinds are known to fit: the rows are added to the
@@ -64,10 +64,25 @@ fn admit_row(alloc: Global, columns: &[Column], row: &Row) -> Result<Option<Row>
     let given = row.values.as_slice();
     let mut values = List::with_capacity(alloc, given.len())?;
     for (place, column) in columns.iter().enumerate() {
-        match admit(column.kind, given[place].copy()?) {
+        let literal = given[place].copy()?;
+        let kind = kind_of_literal(&literal);
+        match admit(column.kind, literal, kind) {
             Ok(value) => values.push(value)?,
             Err(_) => return Ok(None),
         }
     }
     Ok(Some(Row { values }))
+}
+
+// The kind of a literal: a number's by its size, the longest text, a date or a truth, and INTEGER for NULL.
+fn kind_of_literal(literal: &Value) -> Kind
+    ensures { result ≡ kind_of_literal literal.now }
+{
+    match literal {
+        Value::Number(number) => literal_kind(*number, 0),
+        Value::Words(_) => Kind::Varchar { length: 65_535 },
+        Value::Day(_) => Kind::Date,
+        Value::Truth(_) => Kind::Bool,
+        Value::Null => Kind::Int,
+    }
 }

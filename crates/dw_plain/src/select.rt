@@ -7,7 +7,7 @@ ghost use Rattle.dw_plain.specs.Places.{found_at, passes_at, place_of, tested_pl
 
 use crate::columns::column_place;
 use dw_model::{Answer, Change, Column, Outcome, Query, Test, Word};
-use dw_value::{Field, List, Row, Text, Truth, Value, show, sort_rows};
+use dw_value::{Field, Kind, List, Row, Text, Truth, Value, show, sort_rows};
 use std::alloc::{AllocError, Global};
 
 /// What SELECT from a table of these columns and rows comes to, once its names and kinds are known to fit: the items
@@ -90,8 +90,8 @@ fn test_passes(test: &Test, place: Option<usize>, row: &Row) -> bool
     ensures { result ≡ passes_at place (Some test.now) row.now }
 {
     let truth = match value_at(row, place) {
-        Some(value) => test.comparison.holds(value, &test.literal),
-        None => test.comparison.holds(&Value::Null, &test.literal),
+        Some(value) => test.comparison.holds(value, 0, &test.literal, 0),
+        None => test.comparison.holds(&Value::Null, 0, &test.literal, 0),
     };
     matches!(truth, Truth::True)
 }
@@ -133,7 +133,7 @@ fn shown_row(alloc: Global, row: &Row) -> Result<List<Field>, AllocError>
 {
     let mut fields = List::with_capacity(alloc, row.values.len())?;
     for value in row.values.as_slice() {
-        fields.push(show(alloc, value)?)?;
+        fields.push(show(alloc, value, Kind::Big)?)?;
     }
     Ok(fields)
 }

@@ -1,9 +1,10 @@
 -- How names, values and refusals are printed. The forms are this project's own.
 use Rattle.std.specs.Prelude.{ℕ, Bool, false, true, ◌==◌, if◌then◌else◌, List, [], ◌∷◌, ◌++◌, flat_map, codes, decimal}
+use Rattle.dw_value.specs.declared.kinds.Kind.TheVariants.{Big}
 use Rattle.dw_value.specs.declared.values.Value.{Value}
 use Rattle.dw_value.specs.declared.values.Field.{Field}
 use Rattle.dw_value.specs.declared.values.Field.TheVariants.{Null, Shown}
-use Rattle.dw_value.specs.Values.{shown}
+use Rattle.dw_value.specs.Printed.{shown}
 use Rattle.dw_model.specs.declared.refusals.Refusal.{Refusal}
 use Rattle.dw_model.specs.declared.refusals.Refusal.TheVariants.{Syntax, Unknown, Exists, Clash, Range, Deadlock, Aborted, InBlock, Vacuuming, Limit, Memory}
 
@@ -60,9 +61,9 @@ abbrev pub shown_field : Field → List ℕ
 shown_field Null = codes "\\N"
 shown_field (Shown text) = field text
 
--- a value of a table's row
+-- a value of a table's row; numbers are whole so far
 abbrev pub value_field : Value → List ℕ
-value_field value = shown_field (shown value)
+value_field value = shown_field (shown Big value)
 
 -- a bar, and what is printed of an item
 abbrev pub after_bar : {A : Type 0} → (A → List ℕ) → A → List ℕ

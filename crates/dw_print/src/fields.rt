@@ -3,7 +3,7 @@ ghost use Rattle.std.specs.Prelude.{◌≡◌, ◌++◌, OnOk};
 ghost use Rattle.dw_print.specs.Fields.{escape, field, numbers_text, refusal_text, shown_field, value_field};
 
 use dw_model::Refusal;
-use dw_value::{Field, Value, show};
+use dw_value::{Field, Kind, Value, show};
 use itoa::{Buffer, Integer};
 use std::alloc::AllocError;
 
@@ -74,7 +74,7 @@ pub fn write_shown(out: &mut Vec<u8>, label: &str, shown: &Field) -> Result<(), 
 pub fn write_value(out: &mut Vec<u8>, label: &str, value: &Value) -> Result<(), AllocError>
     ensures { OnOk result (out.new.items ≡ out.old.items ++ label.now ++ value_field value.now) }
 {
-    let shown = show(*out.allocator(), value)?;
+    let shown = show(*out.allocator(), value, Kind::Big)?;
     write_shown(out, label, &shown)
 }
 

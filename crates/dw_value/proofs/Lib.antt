@@ -6,7 +6,11 @@ pub mod Ascending
 pub mod Scales
 pub mod EndSpaces
 pub mod Powers
+pub mod Rescaling
+pub mod Ranges
+pub mod Rounding
 pub mod Years
 pub mod Months
 pub mod Calendar
 pub mod Civil
+pub mod ReadDates

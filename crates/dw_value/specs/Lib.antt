@@ -1,5 +1,10 @@
 pub mod Texts
 pub mod Dates
 pub mod Values
+pub mod Kinds
+pub mod Encodings
+pub mod Arithmetic
+pub mod Assignment
+pub mod Printed
 pub mod ValueOrder
 pub mod Sorted

@@ -38,7 +38,7 @@ fn rows(alloc: Global, table: &[(i128, &str)]) -> Result<List<Row>, AllocError> 
 }
 
 fn write(alloc: Global, value: &Value, to: &mut Text) -> Result<(), AllocError> {
-    match show(alloc, value)?.copy()? {
+    match show(alloc, value, Kind::Big)?.copy()? {
         Field::Shown(text) => to.push_str(text.as_str())?,
         Field::Null => to.push_str("NULL")?,
     }
@@ -56,33 +56,32 @@ fn written(alloc: Global, rows: &List<Row>) -> Result<Text, AllocError> {
     Ok(text)
 }
 
+/// What a column of the kind makes of a value of its class, at its own scale.
 fn outcome(to: Kind, value: Value) -> &'static str {
     if !goes_with(to, &value) {
         return "clash";
     }
-    match admit(to, value) {
+    match admit(to, value, to) {
         Ok(_) => "ok",
         Err(Misfit::Range) => "range",
         Err(Misfit::Length) => "length",
+        Err(Misfit::Date) => "date",
     }
 }
 
-/// The value as a column of the kind holds it.
-fn held(to: Kind, value: Value) -> Option<Value> {
-    if !goes_with(to, &value) {
-        return None;
-    }
-    admit(to, value).ok()
+/// DECIMAL(p,s).
+fn decimal(precision: u8, scale: u8) -> Kind {
+    Kind::Decimal { precision, scale }
 }
 
-/// How two numbers stand at scales of at most 37.
+/// What a column of the kind holds of a number of this scale.
+fn rescaled(to: Kind, number: i128, scale: u8) -> Option<Value> {
+    admit(to, Value::Number(number), decimal(38, scale)).ok()
+}
+
+/// How two numbers stand at two scales.
 fn stand(a: i128, a_scale: u8, b: i128, b_scale: u8) -> Ordering {
-    compare_at(
-        &Value::Number(a),
-        a_scale.min(37),
-        &Value::Number(b),
-        b_scale.min(37),
-    )
+    compare(&Value::Number(a), a_scale, &Value::Number(b), b_scale)
 }
 
 fn letter(truth: Truth) -> char {
@@ -105,7 +104,7 @@ fn truths(alloc: Global, value: &Value, others: &[Value]) -> Result<Text, AllocE
         Comparison::AtLeast,
     ] {
         for other in others {
-            text.push(letter(comparison.holds(value, other)))?;
+            text.push(letter(comparison.holds(value, 0, other, 0)))?;
         }
         text.push(' ')?;
     }
@@ -149,20 +148,15 @@ fn containers_hold_what_they_are_given(rt: HostRuntime) -> Result<(), Fail> {
 
 const LONG: i128 = 100_000_000_000_000_000_000_000_000_000_000_000_000;
 
+/// What a column of the kind makes of a text.
 fn words_outcome(alloc: Global, to: Kind, text: &str) -> Result<&'static str, AllocError> {
     Ok(outcome(to, words(alloc, text)?))
 }
 
 #[test]
 fn columns_take_what_fits(rt: HostRuntime) -> Result<(), Fail> {
-    let cents = Kind::Decimal {
-        precision: 4,
-        scale: 2,
-    };
-    let long = Kind::Decimal {
-        precision: 38,
-        scale: 37,
-    };
+    let cents = decimal(4, 2);
+    let long = decimal(38, 37);
     for (kind, first, told) in [
         (Kind::Small, -32_768, "ok"),
         (Kind::Small, 32_768, "range"),
@@ -201,9 +195,325 @@ fn columns_take_what_fits(rt: HostRuntime) -> Result<(), Fail> {
     assert_eq!(rt; outcome(Kind::Date, Value::Day(0)), "ok");
     assert_eq!(rt; outcome(Kind::Int, Value::Day(0)), "clash");
     assert_eq!(rt; outcome(Kind::Bool, Value::Truth(true)), "ok");
-    let kind = Kind::Char { length: 3 };
-    let held = held(kind, words(rt.alloc(), " ü  ")?);
-    assert!(rt; held == Some(words(rt.alloc(), " ü")?));
+    for (text, told) in [(" ü  ", " ü"), ("a   ", "a"), ("üa  ", "üa"), ("    ", "")] {
+        let kind = Kind::Char { length: 3 };
+        let held = admit(kind, words(rt.alloc(), text)?, kind).ok();
+        assert!(rt; held == Some(words(rt.alloc(), told)?));
+    }
+    for (text, told) in [("2024-02-29", 19_782), ("1969-12-31", -1)] {
+        let text = words(rt.alloc(), text)?;
+        assert!(rt;
+            admit(Kind::Date, text, Kind::Varchar { length: 10 }).ok() == Some(Value::Day(told))
+        );
+    }
+    let text = words(rt.alloc(), "2023-02-29")?;
+    assert!(rt;
+        matches!(
+            admit(Kind::Date, text, Kind::Char { length: 10 }),
+            Err(Misfit::Date)
+        )
+    );
+    Ok(())
+}
+
+#[test]
+fn numbers_are_rounded(rt: HostRuntime) {
+    for (to, number, scale, told) in [
+        (Kind::Int, 5, 1, 1),
+        (Kind::Int, -5, 1, -1),
+        (Kind::Int, 4, 1, 0),
+        (Kind::Int, -4, 1, 0),
+        (Kind::Int, -15, 1, -2),
+        (Kind::Int, 25, 1, 3),
+        (decimal(4, 2), 1_005, 3, 101),
+        (decimal(4, 2), -1_005, 3, -101),
+        (decimal(4, 2), 10_049, 4, 100),
+        (decimal(4, 2), 7, 0, 700),
+        (Kind::Big, LONG - 1, 37, 10),
+        (decimal(38, 0), LONG - 1, 1, LONG / 10),
+        (decimal(38, 37), 9, 0, LONG / 10 * 9),
+        (decimal(38, 0), 1, 255, 0),
+    ] {
+        assert!(rt; rescaled(to, number, scale) == Some(Value::Number(told)));
+    }
+    for (to, number, scale) in [
+        (decimal(37, 0), LONG - 1, 1),
+        (decimal(38, 37), 10, 0),
+        (decimal(38, 37), i128::MIN, 0),
+        (decimal(38, 37), i128::MAX, 0),
+        (decimal(4, 2), 99_995, 3),
+        (Kind::Small, 327_675, 1),
+    ] {
+        assert!(rt; rescaled(to, number, scale).is_none());
+    }
+}
+
+#[test]
+fn dates_are_read(rt: HostRuntime) {
+    for (text, told) in [
+        ("2024-02-29", Some(19_782)),
+        ("2023-02-29", None),
+        ("2000-02-29", Some(11_016)),
+        ("1900-02-29", None),
+        ("1900-02-28", Some(-25_509)),
+        ("2024-2-9", None),
+        ("0000-01-01", None),
+        ("0001-01-01", Some(-719_162)),
+        ("9999-12-31", Some(2_932_896)),
+        ("10000-01-01", None),
+        ("2024-02-29 ", None),
+        (" 2024-02-2", None),
+        ("2024/02/29", None),
+        ("2024-13-01", None),
+        ("2024-00-10", None),
+        ("2024-01-00", None),
+        ("2024-04-31", None),
+        ("2O24-01-01", None),
+        ("", None),
+    ] {
+        assert_eq!(rt; read_date(text.as_bytes()), told);
+    }
+}
+
+#[test]
+fn numbers_are_shown_at_their_scale(rt: HostRuntime) -> Result<(), Fail> {
+    for (number, scale, told) in [
+        (150, 2, "1.50"),
+        (-5, 2, "-0.05"),
+        (0, 2, "0.00"),
+        (-150, 0, "-150"),
+        (123_456_789, 4, "12345.6789"),
+        (1, 37, "0.0000000000000000000000000000000000001"),
+        (1 - LONG, 37, "-9.9999999999999999999999999999999999999"),
+        (i128::MIN, 0, "-170141183460469231731687303715884105728"),
+        (i128::MIN, 40, "-0.0170141183460469231731687303715884105728"),
+    ] {
+        let field = show(rt.alloc(), &Value::Number(number), decimal(38, scale))?;
+        assert!(rt; field == Field::Shown(Text::from_str(rt.alloc(), told)?));
+    }
+    Ok(())
+}
+
+/// The number of a result and how it came to be.
+fn calculated(op: Op, a: i128, a_kind: Kind, b: i128, b_kind: Kind) -> (i128, &'static str) {
+    match compute(op, &number(a), a_kind, &number(b), b_kind) {
+        Ok(Value::Number(number)) => (number, "ok"),
+        Ok(Value::Null) => (0, "null"),
+        Ok(_) => (0, "no number"),
+        Err(Fault::Range) => (0, "range"),
+        Err(Fault::Zero) => (0, "zero"),
+    }
+}
+
+/// Ten to the nineteenth.
+const TENS: i128 = 10_000_000_000_000_000_000;
+
+#[test]
+fn whole_numbers_are_calculated(rt: HostRuntime) {
+    let (small, int, big) = (Kind::Small, Kind::Int, Kind::Big);
+    for (op, a, a_kind, b, b_kind, number, told) in [
+        (Op::Add, 32_766, small, 1, small, 32_767, "ok"),
+        (Op::Add, 32_767, small, 1, small, 0, "range"),
+        (Op::Add, 32_767, small, 1, int, 32_768, "ok"),
+        (Op::Subtract, -32_768, small, 1, small, 0, "range"),
+        (Op::Subtract, 0, int, -2_147_483_648, int, 0, "range"),
+        (Op::Multiply, 200, small, 200, small, 0, "range"),
+        (Op::Multiply, 200, int, 200, small, 40_000, "ok"),
+        (
+            Op::Multiply,
+            3_037_000_499,
+            big,
+            3_037_000_499,
+            big,
+            9_223_372_030_926_249_001,
+            "ok",
+        ),
+        (
+            Op::Multiply,
+            3_037_000_500,
+            big,
+            3_037_000_500,
+            big,
+            0,
+            "range",
+        ),
+        (Op::Divide, -7, int, 2, int, -3, "ok"),
+        (Op::Divide, 7, int, -2, int, -3, "ok"),
+        (Op::Remainder, -7, int, 2, int, -1, "ok"),
+        (Op::Remainder, 7, int, -2, int, 1, "ok"),
+        (Op::Divide, 7, int, 0, int, 0, "zero"),
+        (Op::Remainder, 7, int, 0, int, 0, "zero"),
+        (Op::Divide, -32_768, small, -1, small, 0, "range"),
+        (Op::Divide, -32_768, small, -1, int, 32_768, "ok"),
+        (Op::Remainder, -32_768, small, -1, small, 0, "ok"),
+        (
+            Op::Divide,
+            -9_223_372_036_854_775_808,
+            big,
+            -1,
+            big,
+            0,
+            "range",
+        ),
+        (
+            Op::Remainder,
+            -9_223_372_036_854_775_808,
+            big,
+            -1,
+            big,
+            0,
+            "ok",
+        ),
+        (Op::Add, 99, int, 1, int, 0, "null"),
+        (Op::Divide, 1, int, 99, int, 0, "null"),
+        (Op::Divide, 99, int, 0, int, 0, "null"),
+    ] {
+        assert_eq!(rt; calculated(op, a, a_kind, b, b_kind), (number, told));
+    }
+}
+
+#[test]
+fn decimals_are_calculated(rt: HostRuntime) {
+    let int = Kind::Int;
+    for (op, a, a_kind, b, b_kind, number, told) in [
+        (Op::Add, 150, decimal(4, 2), 2, int, 350, "ok"),
+        (
+            Op::Subtract,
+            150,
+            decimal(4, 2),
+            1_505,
+            decimal(5, 3),
+            -5,
+            "ok",
+        ),
+        (
+            Op::Multiply,
+            150,
+            decimal(4, 2),
+            -15,
+            decimal(2, 1),
+            -2_250,
+            "ok",
+        ),
+        (Op::Add, LONG - 1, decimal(38, 0), 1, int, 0, "range"),
+        (Op::Add, LONG - 2, decimal(38, 0), 1, int, LONG - 1, "ok"),
+        (
+            Op::Subtract,
+            1 - LONG,
+            decimal(38, 9),
+            1 - LONG,
+            decimal(38, 9),
+            0,
+            "ok",
+        ),
+        (
+            Op::Subtract,
+            1 - LONG,
+            decimal(38, 9),
+            LONG - 1,
+            decimal(38, 9),
+            0,
+            "range",
+        ),
+        (Op::Add, 9, int, 0, decimal(38, 37), LONG / 10 * 9, "ok"),
+        (Op::Add, 10, int, 0, decimal(38, 37), 0, "range"),
+        (Op::Subtract, 10, int, LONG - 1, decimal(38, 37), 0, "range"),
+        (Op::Add, -2_147_483_648, int, 0, decimal(38, 37), 0, "range"),
+        (
+            Op::Multiply,
+            TENS,
+            decimal(38, 20),
+            TENS - 1,
+            decimal(38, 17),
+            LONG - TENS,
+            "ok",
+        ),
+        (
+            Op::Multiply,
+            TENS,
+            decimal(38, 0),
+            -TENS,
+            decimal(38, 0),
+            0,
+            "range",
+        ),
+        (
+            Op::Multiply,
+            LONG - 1,
+            decimal(38, 0),
+            LONG - 1,
+            decimal(38, 0),
+            0,
+            "range",
+        ),
+        (Op::Multiply, LONG - 1, decimal(38, 0), 0, int, 0, "ok"),
+        (Op::Multiply, 99, decimal(38, 1), 1, int, 0, "null"),
+    ] {
+        assert_eq!(rt; calculated(op, a, a_kind, b, b_kind), (number, told));
+    }
+}
+
+/// A letter for a kind of whole numbers, the scale of a decimal, and `-` for none.
+fn write_kind(kind: Option<Kind>, to: &mut String) -> Result<(), AllocError> {
+    match kind {
+        Some(Kind::Small) => to.push_str("s ")?,
+        Some(Kind::Int) => to.push_str("i ")?,
+        Some(Kind::Big) => to.push_str("b ")?,
+        Some(kind) => write!(to, "{} ", kind.scale())?,
+        None => to.push_str("- ")?,
+    }
+    Ok(())
+}
+
+#[test]
+fn results_have_kinds(rt: HostRuntime) -> Result<(), Fail> {
+    let kinds = [
+        Kind::Small,
+        Kind::Int,
+        Kind::Big,
+        decimal(5, 2),
+        decimal(38, 20),
+        Kind::Char { length: 1 },
+        Kind::Varchar { length: 1 },
+        Kind::Date,
+        Kind::Bool,
+    ];
+    let none = "- - - - - - - - - ; - - - - - - - - - ; - - - - - - - - - ; - - - - - - - - - ; ";
+    let sums =
+        "s i b 2 20 - - - - ; i i b 2 20 - - - - ; b b b 2 20 - - - - ; 2 2 2 2 20 - - - - ; 20 20 20 20 20 - - - - ; ";
+    let products =
+        "s i b 2 20 - - - - ; i i b 2 20 - - - - ; b b b 2 20 - - - - ; 2 2 2 4 22 - - - - ; 20 20 20 22 - - - - - ; ";
+    let quotients =
+        "s i b - - - - - - ; i i b - - - - - - ; b b b - - - - - - ; - - - - - - - - - ; - - - - - - - - - ; ";
+    for (op, numbers) in [
+        (Op::Add, sums),
+        (Op::Subtract, sums),
+        (Op::Multiply, products),
+        (Op::Divide, quotients),
+        (Op::Remainder, quotients),
+    ] {
+        let mut text = String::new(rt.alloc());
+        for a in kinds {
+            for b in kinds {
+                write_kind(result_kind(op, a, b), &mut text)?;
+            }
+            text.push_str("; ")?;
+        }
+        let mut told = String::from_str(rt.alloc(), numbers)?;
+        told.push_str(none)?;
+        assert_eq!(rt; text.as_str(), told.as_str());
+    }
+    let mut text = String::new(rt.alloc());
+    for (number, places) in [
+        (2_147_483_647, 0),
+        (2_147_483_648, 0),
+        (9_223_372_036_854_775_807, 0),
+        (9_223_372_036_854_775_808, 0),
+        (15, 1),
+    ] {
+        write_kind(Some(literal_kind(number, places)), &mut text)?;
+    }
+    assert_eq!(rt; text.as_str(), "i b b 0 1 ");
     Ok(())
 }
 
@@ -224,13 +534,14 @@ fn scales_dont_change_a_number(rt: HostRuntime) {
         assert_eq!(rt; stand(a, a_scale, b, b_scale), told);
     }
     assert_eq!(rt;
-        compare_at(&Value::Number(5), 2, &Value::Null, 0),
+        compare(&Value::Number(5), 2, &Value::Null, 0),
         Ordering::Less
     );
     assert_eq!(rt;
-        compare_at(&Value::Day(5), 2, &Value::Day(5), 0),
+        compare(&Value::Day(5), 2, &Value::Day(5), 0),
         Ordering::Equal
     );
+    assert_eq!(rt; stand(-1, 0, -1, 255), Ordering::Less);
 }
 
 #[test]
@@ -277,7 +588,7 @@ fn classes_stand_in_order(rt: HostRuntime) -> Result<(), Fail> {
     ];
     for (place, value) in ascending.iter().enumerate() {
         for (other_place, other) in ascending.iter().enumerate() {
-            assert_eq!(rt; compare(value, other), place.cmp(&other_place));
+            assert_eq!(rt; compare(value, 0, other, 0), place.cmp(&other_place));
         }
     }
     Ok(())

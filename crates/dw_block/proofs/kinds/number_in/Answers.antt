@@ -3,7 +3,8 @@ use Rattle.std.proofs.lemmas.Int.{to_z-of_z}
 use Rattle.dw_value.specs.declared.values.Value.TheVariants.{Number, Day, Truth}
 use Rattle.dw_codec_plain.specs.Numbers.{FitsWidth}
 use Rattle.dw_codec_plain.proofs.Signed.{same_bits}
-use Rattle.dw_block.specs.Blocks.{width, IsValueOf}
+use Rattle.dw_value.specs.Encodings.{width}
+use Rattle.dw_block.specs.Blocks.{IsValueOf}
 use Rattle.dw_block.proofs.Fit.{number_fits, day_fits, truth_fits}
 use Rattle.dw_block.proofs.Forms.{IsWidth-width}
 use Rattle.dw_block.proofs.kinds.number_in.Goals as goal

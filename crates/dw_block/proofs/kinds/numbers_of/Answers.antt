@@ -3,7 +3,8 @@ use Rattle.std.specs.Prelude.{All}
 use Rattle.std.proofs.lemmas.List.Elements.{All-get_or}
 use Rattle.dw_codec_plain.specs.Numbers.{FitsWidth}
 use Rattle.dw_codec_plain.proofs.Signed.{same_bits}
-use Rattle.dw_block.specs.Blocks.{width, IsValueOf, number_in, numbers_of}
+use Rattle.dw_value.specs.Encodings.{width}
+use Rattle.dw_block.specs.Blocks.{IsValueOf, number_in, numbers_of}
 use Rattle.dw_block.proofs.Forms.{IsWidth-width}
 use Rattle.dw_block.proofs.Present.{some_step, none_step}
 use Rattle.dw_block.proofs.kinds.numbers_of.Goals as goal

@@ -1,7 +1,8 @@
 -- The numbers of the values that the loop has passed are there.
 use Rattle.std.proofs.Common.{◌≡◌, ◌≤◌, length, All, take}
 use Rattle.dw_codec_plain.specs.Numbers.{FitsWidth}
-use Rattle.dw_block.specs.Blocks.{width, numbers_of}
+use Rattle.dw_value.specs.Encodings.{width}
+use Rattle.dw_block.specs.Blocks.{numbers_of}
 use Rattle.dw_block.proofs.kinds.numbers_of.Given as goal
 
 abbrev pub invariant-loop-value : goal.invariant-loop-value

@@ -4,7 +4,8 @@ use Rattle.std.proofs.lemmas.Int.{to_z-of_z}
 use Rattle.dw_value.specs.declared.values.Value.TheVariants.{Day}
 use Rattle.dw_codec_plain.specs.Numbers.{FitsWidth}
 use Rattle.dw_codec_plain.proofs.Signed.{same_bits}
-use Rattle.dw_block.specs.Blocks.{width, value_of}
+use Rattle.dw_value.specs.Encodings.{width}
+use Rattle.dw_block.specs.Blocks.{value_of}
 use Rattle.dw_block.proofs.Fit.{date_range}
 use Rattle.dw_block.proofs.kinds.value_of.Goals as goal
 

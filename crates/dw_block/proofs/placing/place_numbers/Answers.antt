@@ -4,7 +4,8 @@ use Rattle.dw_value.specs.declared.values.Value.{Value}
 use Rattle.dw_value.specs.declared.values.Value.TheVariants.{Null}
 use Rattle.dw_codec_plain.specs.Numbers.{FitsWidth}
 use Rattle.dw_codec_plain.proofs.Signed.{same_bits}
-use Rattle.dw_block.specs.Blocks.{width, number_in, value_of}
+use Rattle.dw_value.specs.Encodings.{width}
+use Rattle.dw_block.specs.Blocks.{number_in, value_of}
 use Rattle.dw_block.proofs.Forms.{IsWidth-width}
 use Rattle.dw_block.proofs.Places.{IsFound, null_place, item_place, no_item, some_number}
 use Rattle.dw_block.proofs.placing.place_numbers.Goals as goal

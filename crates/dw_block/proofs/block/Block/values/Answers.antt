@@ -4,7 +4,8 @@ use Rattle.std.proofs.lemmas.Result.{IfOk-weaker}
 use Rattle.dw_codec_plain.specs.Numbers.{FitsWidth}
 use Rattle.dw_codec_plain.specs.Spelling.{IsSpelling}
 use Rattle.dw_block.specs.Nulls.{null_len}
-use Rattle.dw_block.specs.Blocks.{encoded_numbers, width, IsBlockText}
+use Rattle.dw_value.specs.Encodings.{width}
+use Rattle.dw_block.specs.Blocks.{encoded_numbers, IsBlockText}
 use Rattle.dw_block.proofs.Reading.{few, front_within, nulls_within, numbers_spelled, texts_spelled, numbers_found, texts_found, texts_stored}
 use Rattle.dw_block.proofs.block.Block.values.Goals as goal
 
