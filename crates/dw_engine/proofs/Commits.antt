@@ -17,7 +17,7 @@ use Rattle.dw_journal.specs.Turns.{number_due}
 use Rattle.dw_core.specs.declared.decisions.Committed.{Committed}
 use Rattle.dw_core.specs.declared.decisions.Committed.TheVariants as decisions
 use Rattle.dw_core.specs.DueEvents.{commit_due, decision_of}
-use Rattle.dw_engine.specs.declared.views.View.{View}
+use Rattle.dw_commit.specs.declared.views.View.{View}
 use Rattle.dw_engine.specs.EngineInvariant.{HasView, Sees, EngineInvariant}
 use Rattle.dw_engine.specs.Steps.{IsStep, moved}
 use Rattle.dw_engine.proofs.ViewLemmas.{EngineInvariant-ended, some_by}

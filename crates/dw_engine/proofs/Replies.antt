@@ -14,11 +14,12 @@ use Rattle.dw_journal.specs.Transactions.{transaction_of}
 use Rattle.dw_journal.specs.Contents.{view}
 use Rattle.dw_journal.specs.Legal.{IsNextEvent, work_refusal}
 use Rattle.dw_journal.specs.Turns.{AnswerOf, turn_of}
-use Rattle.dw_engine.specs.declared.views.View.{View}
-use Rattle.dw_engine.specs.declared.work.Replied.{Replied}
-use Rattle.dw_engine.specs.declared.work.Replied.TheVariants.{Answered, Refused}
+use Rattle.dw_commit.specs.declared.views.View.{View}
+use Rattle.dw_commit.specs.declared.work.Replied.{Replied}
+use Rattle.dw_commit.specs.declared.work.Replied.TheVariants.{Answered, Refused}
 use Rattle.dw_engine.specs.EngineInvariant.{HasView}
-use Rattle.dw_engine.specs.Replies.{IsReply, IsReplyOf}
+use Rattle.dw_commit.specs.Replies.{IsReply}
+use Rattle.dw_engine.specs.Replies.{IsReplyOf}
 use Rattle.dw_engine.proofs.NextEvents.{answer_comes, open_refused}
 use Rattle.dw_engine.proofs.ViewLemmas.{HasView-answered, seen_view}
 

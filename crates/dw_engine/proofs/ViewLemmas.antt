@@ -27,44 +27,10 @@ use Rattle.dw_journal.specs.Contents.{contents, contents_at, view, view_after, c
 use Rattle.dw_journal.proofs.AloneLemmas.{next_of-done}
 use Rattle.dw_journal.proofs.Stand.{commits-event, contents-event, state_newest}
 use Rattle.dw_journal.proofs.TakenObjects.{answered_statements-more}
-use Rattle.dw_engine.specs.declared.views.View.{View}
-use Rattle.dw_engine.specs.EngineInvariant.{IsViewOf, Sees, HasView, HaveNoVacuum, EngineInvariant}
-
--- further statements after others
-view_after-append : (files : Files) (start : Tables) (first second : List Statement)
-    → view_after files start (first ++ second) ≡ view_after files (view_after files start first) second
-view_after-append files start [] second = refl
-view_after-append files start (statement ∷ first) second = view_after-append files (next_of files statement start) first second
-
-changes_of-append : (files : Files) (start : Tables) (first second : List Statement)
-    → changes_of files (first ++ second) start ≡ changes_of files first start ++ changes_of files second (view_after files start first)
-changes_of-append files start [] second = refl
-changes_of-append files start (statement ∷ first) second =
-    ap (λ (later : List Change). change_of files statement start ∷ later) (changes_of-append files (next_of files statement start) first second)
-
--- a statement that is answered comes last
-statements_in-answered : (world : World) (session k : ℕ) (answer : Reply) (statement : Statement) (answered : List (ℕ × Reply))
-    → statement_at world session k ≡ Some statement
-    → statements_in world session ((k, answer) ∷ answered) ≡ statements_in world session answered ++ statement ∷ []
-statements_in-answered world session k answer statement answered given =
-    let first = λ (pair : Statement × Reply). pair.0 in
-    ap (λ (pairs : List (Statement × Reply)). map first pairs) (answered_statements-more world session k answer answered)
-    ∙ map-append first (answered_statements world session answered) (cons_option (statement_with (statement_at world session k) answer) [])
-    ∙ ap (λ (found : Option Statement). statements_in world session answered ++ map first (cons_option (statement_with found answer) [])) given
-
--- what one more statement does to a view
-IsViewOf-answered : (files : Files) (statements : List Statement) (start : Tables) (statement : Statement) (answer : Reply) (view next : View)
-    → IsViewOf files statements start view → alone files statement view.database ≡ Done answer next.database
-    → next.changes ≡ view.changes ++ change_of files statement view.database ∷ []
-    → IsViewOf files (statements ++ statement ∷ []) start next
-IsViewOf-answered files statements start statement answer view next is is_done grown = record {
-  database = sym (next_of-done files statement view.database next.database answer is_done)
-      ∙ ap (next_of files statement) is.database ∙ sym (view_after-append files start statements (statement ∷ []));
-  changes = grown
-      ∙ ap (λ (tables : Tables). view.changes ++ change_of files statement tables ∷ []) is.database
-      ∙ ap (λ (changes : List Change). changes ++ change_of files statement (view_after files start statements) ∷ []) is.changes
-      ∙ sym (changes_of-append files start statements (statement ∷ []));
-}
+use Rattle.dw_commit.specs.declared.views.View.{View}
+use Rattle.dw_commit.specs.Views.{IsViewOf}
+use Rattle.dw_commit.proofs.ViewLemmas.{statements_in-answered, IsViewOf-answered}
+use Rattle.dw_engine.specs.EngineInvariant.{Sees, HasView, HaveNoVacuum, EngineInvariant}
 
 -- any event leaves the view of an open transaction
 HasView-event : (history : History) (event : Event) (session : ℕ) (transaction : Option Transaction) (view : Option View)

@@ -9,12 +9,8 @@ use Rattle.dw_journal.specs.Worlds.{session_count, statement_at}
 use Rattle.dw_journal.specs.History.{History}
 use Rattle.dw_journal.specs.Transactions.{Transaction, transaction_of, commits, statements_in}
 use Rattle.dw_journal.specs.Contents.{contents, contents_at, view_after, changes_of}
-use Rattle.dw_engine.specs.declared.views.View.{View}
-
--- the view is what these statements leave of the database `start`, with their changes in order
-pub record IsViewOf (files : Files) (statements : List Statement) (start : Tables) (view : View) : Type 0 where
-  pub database : view.database ≡ view_after files start statements
-  pub changes : view.changes ≡ changes_of files statements start
+use Rattle.dw_commit.specs.declared.views.View.{View}
+use Rattle.dw_commit.specs.Views.{IsViewOf}
 
 -- it is the view of a session's transaction, whose snapshot is committed
 pub record Sees (history : History) (session : ℕ) (transaction : Transaction) (view : View) : Type 0 where

@@ -10,8 +10,7 @@ ghost use Rattle.dw_engine.specs.Replies.{IsReplyOf};
 ghost use Rattle.dw_engine.specs.Steps.{IsStep};
 
 use crate::engines::Engine;
-use crate::views::View;
-use crate::work::{Replied, reply};
+use dw_commit::{Replied, View, reply};
 use dw_core::Core;
 use dw_journal::{Given, place_of};
 use dw_model::Refusal;

@@ -10,7 +10,7 @@ ghost use Rattle.dw_core.specs.DueEvents.{commit_due};
 ghost use Rattle.dw_engine.specs.Steps.{IsStep};
 
 use crate::engines::Engine;
-use crate::install::install;
+use dw_commit::install;
 use dw_core::Committed;
 use dw_journal::place_of;
 use dw_model::Database;

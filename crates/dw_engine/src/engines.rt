@@ -7,7 +7,7 @@ ghost use Rattle.dw_journal.specs.Contents.{contents};
 ghost use Rattle.dw_journal.specs.Legal.{IsLegal};
 ghost use Rattle.dw_engine.specs.EngineInvariant.{HaveNoVacuum};
 
-use crate::views::View;
+use dw_commit::View;
 use dw_core::{Core, Next};
 use dw_journal::{Journal, Shape, World};
 use dw_model::Database;

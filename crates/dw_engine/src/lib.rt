@@ -8,11 +8,8 @@ mod blocks;
 mod commit;
 mod demands;
 mod engines;
-mod install;
 mod opening;
 mod steps;
-mod views;
-mod work;
 
 pub use dw_core::Next;
 pub use engines::{Engine, Ran};

@@ -8,7 +8,7 @@ ghost use Rattle.dw_engine.specs.NextStatements.{IsTakingWork, bound_refusal_of}
 ghost use Rattle.dw_engine.specs.Steps.{IsStep};
 
 use crate::engines::Engine;
-use crate::views::View;
+use dw_commit::View;
 use dw_journal::{BlockState, Given, place_of};
 use dw_model::{Database, Refusal};
 use dw_plain::bound_refusal;

@@ -2,7 +2,7 @@ use Rattle.std.proofs.Common.{subst}
 use Rattle.std.specs.Prelude.{Option}
 use Rattle.dw_journal.specs.Transactions.{transaction_of}
 use Rattle.dw_journal.specs.Turns.{number_due}
-use Rattle.dw_engine.specs.declared.views.View.{View}
+use Rattle.dw_commit.specs.declared.views.View.{View}
 use Rattle.dw_engine.specs.EngineInvariant.{HasView}
 use Rattle.dw_engine.proofs.DueTurns.{answer_has}
 use Rattle.dw_engine.proofs.ViewLemmas.{none_by}

@@ -2,7 +2,7 @@ use Rattle.std.proofs.Common.{◌≡◌, true, false, refl, ap, sym, subst, ◌�
 use Rattle.std.specs.Prelude.{Option}
 use Rattle.dw_journal.specs.History.{History}
 use Rattle.dw_journal.specs.Transactions.{transaction_of}
-use Rattle.dw_engine.specs.declared.views.View.{View}
+use Rattle.dw_commit.specs.declared.views.View.{View}
 use Rattle.dw_engine.specs.EngineInvariant.{HasView}
 use Rattle.std.specs.Prelude.{is_some}
 use Rattle.std.proofs.Math.ListN.{set}

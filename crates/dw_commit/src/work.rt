@@ -1,6 +1,6 @@
 //! An open statement, run on its session's view.
 ghost use Rattle.std.specs.Prelude.{IfOk};
-ghost use Rattle.dw_engine.specs.Replies.{IsReply};
+ghost use Rattle.dw_commit.specs.Replies.{IsReply};
 
 use crate::views::View;
 use dw_model::{Answer, FileMap, Outcome, Refusal, Statement, limit_refusal};
@@ -9,7 +9,7 @@ use std::alloc::{AllocError, Global};
 
 /// What an open statement gives.
 #[derive(Debug, Drop)]
-pub(crate) enum Replied {
+pub enum Replied {
     /// The answer, and what its session then sees.
     Answered { answer: Answer, view: View },
     /// The refusal. The view is gone.
@@ -18,7 +18,7 @@ pub(crate) enum Replied {
 
 /// What a statement gives that is run on a view beside the files that were handed in. It changes the view's database in
 /// place, and its change is kept there, moved and not copied. A refused one ends its transaction, so the view goes.
-pub(crate) fn reply(
+pub fn reply(
     alloc: Global,
     statement: &Statement,
     files: &FileMap,

@@ -1,7 +1,7 @@
 -- The tables of the objects that the loop has passed, from the last.
 use Rattle.std.proofs.Common.{◌≡◌, drop}
 use Rattle.dw_journal.specs.Contents.{Effect, with_tables}
-use Rattle.dw_engine.proofs.install.install.Given as goal
+use Rattle.dw_commit.proofs.installing.install.Given as goal
 
 abbrev pub invariant-loop-place : goal.invariant-loop-place
 invariant-loop-place l =

@@ -16,11 +16,7 @@ use std::alloc::{AllocError, Global};
 /// The database once a transaction with this view, which took this, is committed on `database`. A table that is then as
 /// in the view or as in `database` is shared with it; of any other one the rows are copied once, with those added that
 /// the transaction's changes add.
-pub(crate) fn install(
-    view: &View,
-    taken: &Taken,
-    database: &Database,
-) -> Result<Database, AllocError>
+pub fn install(view: &View, taken: &Taken, database: &Database) -> Result<Database, AllocError>
     ensures { IfOk result (λ next. next ≡ after_commit
         (record { taken = taken.now; changes = view.now.changes; view = view.now.database }) database.now) }
 {

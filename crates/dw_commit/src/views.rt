@@ -4,7 +4,7 @@ use dw_value::List;
 
 /// The database at the transaction's snapshot after its answered statements, and what each of them changes, in order.
 #[derive(Debug, Drop)]
-pub(crate) struct View {
-    pub(crate) database: Database,
-    pub(crate) changes: List<Change>,
+pub struct View {
+    pub database: Database,
+    pub changes: List<Change>,
 }
