@@ -1,0 +1,10 @@
+pub mod Verdicts
+pub mod Dues
+pub mod Sames
+pub mod Readings
+pub mod Summaries
+pub mod Changes
+pub mod Judging
+pub mod Waiting
+pub mod RefusedNext
+pub mod AnswersJudged

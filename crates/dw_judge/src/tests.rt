@@ -1,0 +1,280 @@
+//! Journals judged beside their worlds, with ample memory.
+use crate::{Verdict, judge};
+use dw_journal::{Event, Given, Journal, Route, Shape, World};
+use dw_model::{Answer, ColumnSpec, FileMap, Object, Query, Refusal, Statement, TableSpec, Word};
+use dw_value::{Kind, List, Row, Text, Value};
+use std::alloc::{AllocError, Global};
+use std::test::Fail;
+
+/// The write skew of two blocks, up to its decisions.
+const SKEW: &str =
+    "open 1 1 0, created 1 1, commit 1 1 1 1 0, open 1 2 1, created 1 2, commit 1 2 2 2 0, begin 1 3
+open 1 4 2, none 1 4, begin 2 1, open 2 2 2, none 2 2, open 1 5 2, inserted 1 5, open 2 3 2, inserted 2 3";
+
+const SKEWED: &str = "create a; create b; begin; select a; insert b; commit
+begin; select b; insert a; commit";
+
+const VACUUM: &str =
+    "open 1 1 0, created 1 1, commit 1 1 1 1 0, vacuum 1 2 t, slice 1 2 0 1, slice 1 2 1 1, slice 1 2 2 1";
+
+/// Scripts, one on each line; the number of sessions in the shape; the first events and those after them; and the
+/// verdict.
+const JUDGED: [(&str, u32, &str, &str, &str); 17] = [
+    ("-", 1, "end 1", "", "passes"),
+    ("-", 1, "", "", "not follows 0"),
+    ("-", 2, "end 1", "", "not follows 0"),
+    ("-", 1, "end 1", "end 1", "not follows 2"),
+    ("create t", 1, "open 2 1 0", "", "not follows 1"),
+    ("create t", 1, "open 1 1 1", "", "not legal 1"),
+    (
+        SKEWED,
+        2,
+        SKEW,
+        "commit 1 6 3 3 2, violation 2 4 3 3 b, end 1, end 2",
+        "passes",
+    ),
+    (
+        SKEWED,
+        2,
+        SKEW,
+        "commit 1 6 3 3 2, violation 2 4 3 3 b, end 1",
+        "not follows 19",
+    ),
+    (
+        SKEWED,
+        2,
+        SKEW,
+        "commit 1 6 3 3 2, commit 2 4 4 3 3, end 1, end 2",
+        "not legal 18",
+    ),
+    (
+        SKEWED,
+        2,
+        SKEW,
+        "commit 1 6 3 3 1, violation 2 4 3 3 b, end 1, end 2",
+        "not legal 17",
+    ),
+    (
+        SKEWED,
+        2,
+        SKEW,
+        "commit 1 6 3 3 2, violation 2 4 3 3 a, end 1, end 2",
+        "not legal 18",
+    ),
+    (SKEWED, 2, SKEW, "commit 1 6 3 3 2, end 2", "not follows 18"),
+    (
+        "create t; vacuum t",
+        1,
+        VACUUM,
+        "slice 1 2 3 1, swept 1 2, end 1",
+        "passes",
+    ),
+    (
+        "create t; vacuum t",
+        1,
+        VACUUM,
+        "slice 1 2 3 0, swept 1 2, end 1",
+        "not legal 8",
+    ),
+    (
+        "create t; vacuum t",
+        1,
+        VACUUM,
+        "swept 1 2, end 1",
+        "not follows 8",
+    ),
+    (
+        "create t",
+        1,
+        "refresh 1 0, open 1 1 0, created 1 1",
+        "refused 1 1, end 1",
+        "not legal 4",
+    ),
+    ("vacuum t", 1, "refresh 2 0", "", "not legal 1"),
+];
+
+fn statement(alloc: Global, text: &str) -> Result<Statement, AllocError> {
+    let mut words = text.split_whitespace();
+    let form = words.next().unwrap_or("");
+    let table = Text::from_str(alloc, words.next().unwrap_or(""))?;
+    let name = Text::from_str(alloc, "x")?;
+    Ok(match form {
+        "begin" => Statement::Begin,
+        "commit" => Statement::Commit,
+        "vacuum" => Statement::Vacuum { table },
+        "create" => {
+            let mut columns = List::new(alloc);
+            columns.push(ColumnSpec {
+                name,
+                kind: Kind::Int,
+            })?;
+            Statement::Create {
+                spec: TableSpec {
+                    name: table,
+                    columns,
+                },
+            }
+        }
+        "insert" => {
+            let mut values = List::new(alloc);
+            values.push(Value::Number(1))?;
+            let mut rows = List::new(alloc);
+            rows.push(Row { values })?;
+            Statement::Insert { table, rows }
+        }
+        _ => {
+            let mut items = List::new(alloc);
+            items.push(name)?;
+            Statement::Select {
+                query: Query {
+                    items,
+                    table,
+                    keep: None,
+                },
+            }
+        }
+    })
+}
+
+fn scripts(alloc: Global, text: &str) -> Result<List<List<Given>>, AllocError> {
+    let mut scripts = List::new(alloc);
+    for line in text.lines() {
+        let mut script = List::new(alloc);
+        for part in line.split(';') {
+            if part != "-" {
+                script.push(Given::Read(statement(alloc, part)?))?;
+            }
+        }
+        scripts.push(script)?;
+    }
+    Ok(scripts)
+}
+
+fn number(word: Option<&str>) -> u64 {
+    word.unwrap_or("").parse::<u64>().unwrap_or(0)
+}
+
+fn small(word: Option<&str>) -> u32 {
+    word.unwrap_or("").parse::<u32>().unwrap_or(0)
+}
+
+fn reply(alloc: Global, form: &str) -> Result<Answer, AllocError> {
+    Ok(match form {
+        "created" => Answer::Plain {
+            word: Word::CreateTable,
+        },
+        "inserted" => Answer::Count {
+            word: Word::Insert,
+            count: 1,
+        },
+        _ => {
+            let mut names = List::new(alloc);
+            names.push(Text::from_str(alloc, "x")?)?;
+            Answer::Rows {
+                word: Word::Select,
+                names,
+                rows: List::new(alloc),
+            }
+        }
+    })
+}
+
+fn event(alloc: Global, text: &str) -> Result<Event, AllocError> {
+    let mut words = text.split_whitespace();
+    let form = words.next().unwrap_or("");
+    let session = small(words.next());
+    let word = words.next();
+    let statement = small(word);
+    Ok(match form {
+        "begin" => Event::Begin { session, statement },
+        "open" => Event::Opened {
+            session,
+            statement,
+            snapshot: number(words.next()),
+            route: Route::Main,
+        },
+        "created" | "inserted" | "none" => Event::Answer {
+            session,
+            statement,
+            answer: reply(alloc, form)?,
+        },
+        "commit" => Event::Commit {
+            session,
+            statement,
+            stamp: number(words.next()),
+            low: number(words.next()),
+            high: number(words.next()),
+        },
+        "violation" => Event::Violation {
+            session,
+            statement,
+            low: number(words.next()),
+            high: number(words.next()),
+            object: Object::Rows(Text::from_str(alloc, words.next().unwrap_or(""))?),
+        },
+        "refused" => Event::Refuse {
+            session,
+            statement,
+            refusal: Refusal::Clash,
+        },
+        "vacuum" => Event::VacuumBegin {
+            session,
+            statement,
+            table: Text::from_str(alloc, words.next().unwrap_or(""))?,
+        },
+        "slice" => Event::VacuumSlice {
+            session,
+            statement,
+            slice: small(words.next()),
+            horizon: number(words.next()),
+        },
+        "swept" => Event::VacuumEnd { session, statement },
+        "refresh" => Event::Refresh {
+            cluster: session,
+            stamp: number(word),
+        },
+        _ => Event::End { session },
+    })
+}
+
+fn add_events(alloc: Global, events: &mut List<Event>, text: &str) -> Result<(), AllocError> {
+    for line in text.lines() {
+        for part in line.split(',') {
+            if !part.is_empty() {
+                events.push(event(alloc, part)?)?;
+            }
+        }
+    }
+    Ok(())
+}
+
+fn told(alloc: Global, verdict: &Verdict) -> Result<String, AllocError> {
+    match verdict {
+        Verdict::Passes { .. } => String::from_str(alloc, "passes"),
+        Verdict::NotLegal { event } => format!(in alloc; "not legal {event}"),
+        Verdict::NotFollows { event } => format!(in alloc; "not follows {event}"),
+    }
+}
+
+#[test]
+fn journals_are_judged(rt: HostRuntime) -> Result<(), Fail> {
+    let alloc = rt.alloc();
+    for (script, sessions, first, second, verdict) in JUDGED {
+        let world = World {
+            scripts: scripts(alloc, script)?,
+            files: FileMap::new(alloc),
+        };
+        let mut events = List::new(alloc);
+        add_events(alloc, &mut events, first)?;
+        add_events(alloc, &mut events, second)?;
+        let journal = Journal {
+            shape: Shape::standard(sessions),
+            events,
+        };
+        if world.scripts.len() <= 64 {
+            let found = judge(alloc, &world, &journal)?;
+            assert_eq!(rt; told(alloc, &found)?.as_str(), verdict, "{second}");
+        }
+    }
+    Ok(())
+}
