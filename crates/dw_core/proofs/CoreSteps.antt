@@ -14,16 +14,17 @@ use Rattle.dw_journal.specs.declared.Event.TheVariants.{Begin, Pass, Opened, Ans
 use Rattle.dw_journal.specs.Worlds.{IsSession}
 use Rattle.dw_journal.specs.History.{History, with_event, session_of, is_of}
 use Rattle.dw_journal.specs.Blocks.{block_after}
-use Rattle.dw_journal.specs.Transactions.{transaction_of, commits}
+use Rattle.dw_journal.specs.Transactions.{transaction_of, snapshot_of, commits}
 use Rattle.dw_journal.specs.Turns.{number_due}
 use Rattle.dw_journal.specs.Legal.{IsNextEvent, certified}
 use Rattle.dw_journal.proofs.Stand.{commits-event}
-use Rattle.dw_ssn.specs.CommitList.{CommitList}
+use Rattle.dw_ssn.specs.Summaries.{Summaries, StandsFor}
+use Rattle.dw_core.specs.Pruned.{pruned_at}
 use Rattle.dw_core.specs.declared.sessions.Session.{Session}
 use Rattle.dw_core.specs.declared.sessions.Stage.{Stage}
 use Rattle.dw_core.specs.declared.sessions.Stage.TheVariants as stage
 use Rattle.dw_core.specs.Changes.{IsPlain, HasRoomKept, answered_stage, session_after}
-use Rattle.dw_core.specs.CoreInvariant.{CoreInvariant, IsKept, owed_events, total_owed}
+use Rattle.dw_core.specs.CoreInvariant.{CoreInvariant, IsKept, IsWithin, owed_events, total_owed}
 use Rattle.dw_core.proofs.DueEvents.{told}
 use Rattle.dw_core.proofs.KeptSessions.{is_between, is_opened, stage_at}
 use Rattle.dw_core.proofs.NextEvents.{IsCalm, IsOfTransaction, OpensNothing, kept_after_own, kept_by_others, still_unattached, still_unswept, still_unwanted, still_within}
@@ -143,12 +144,14 @@ plain_opens session (VacuumBegin other k table) is = absurd is
 plain_opens session (VacuumSlice other k slice horizon) is = absurd is
 plain_opens session event is = tt
 
-plain_certified : (history : History) (session : ℕ) (event : Event) → IsPlain session event → certified (with_event history event) ≡ certified history
-plain_certified history session (Commit other k stamp low high) is = absurd is
-plain_certified history session event is = refl
+plain_stands : (history : History) (session : ℕ) (event : Event) → IsPlain session event → (certifier : Summaries)
+    → StandsFor certifier (record { oldest = pruned_at history; commits = certified history })
+    → StandsFor certifier (record { oldest = pruned_at (with_event history event); commits = certified (with_event history event) })
+plain_stands history session (Commit other k stamp low high) is certifier stands = absurd is
+plain_stands history session event is certifier stands = stands
 
 -- the parts agree still where only room was made
-pub roomier : (history : History) (newer : List Event) (sessions : List Session) (certifier : CommitList) (count capacity more room : ℕ)
+pub roomier : (history : History) (newer : List Event) (sessions : List Session) (certifier : Summaries) (count capacity more room : ℕ)
     → CoreInvariant history sessions certifier count capacity → newer ≡ history.events → more ≡ count → capacity ≤ room
     → CoreInvariant (record { shape = history.shape; world = history.world; events = newer }) sessions certifier more room
 roomier history newer sessions certifier count capacity more room core same more_is further =
@@ -158,8 +161,7 @@ roomier history newer sessions certifier count capacity more room core same more
       shaped = core.shaped;
       short = core.short;
       each = core.each;
-      certified_are = core.certified_are;
-      oldest_is = core.oldest_is;
+      stands = core.stands;
       snapshots = core.snapshots;
       unwanted = core.unwanted;
       unswept = core.unswept;
@@ -169,7 +171,7 @@ roomier history newer sessions certifier count capacity more room core same more
       room = omega (arith, core.room);
     })
 
-module _ (history : History) (sessions : List Session) (certifier : CommitList) (count capacity : ℕ)
+module _ (history : History) (sessions : List Session) (certifier : Summaries) (count capacity : ℕ)
     (core : CoreInvariant history sessions certifier count capacity) (session : ℕ) (is : IsSession history.world session) where
   pub place_within : session - 1 < length sessions
   place_within = omega (arith, core.number, is.0, is.1)
@@ -193,6 +195,10 @@ module _ (history : History) (sessions : List Session) (certifier : CommitList) 
       let same : total_owed changed ≡ total_owed (set sessions (session - 1) now) = ap total_owed changed_is in
       omega (arith, change, same, core.room)
 
+  -- the oldest number is among the commits
+  pub pruned : certifier.oldest ≤ commits history.events
+  pruned = omega (arith, core.stands.within, core.stands.oldest_is, commits_certified history (certified history) refl)
+
   -- an event of the session
   module _ (event : Event) (of_it : session_of event ≡ Some session) (next : IsNextEvent history event) (calm : IsCalm history event)
       (now : Session) (is_kept : IsKept (with_event history event) session now) where
@@ -211,21 +217,29 @@ module _ (history : History) (sessions : List Session) (certifier : CommitList) 
         let not_own : is_of other event ≡ false = rw of_it differ in
         kept_by_others history event other found not_own (core.each other found first before)
 
+    -- what is kept of each session is what its events say
+    pub each_after : (other : ℕ) (found : Session) → 1 ≤ other → slice_get (set sessions (session - 1) now) (other - 1) ≡ Some found → IsKept (with_event history event) other found
+    each_after other found first there = each_by other found (session == other) refl first there
+
+    -- no snapshot falls below the oldest number
+    pub still_open : (other : ℕ) → IsSession history.world other → IsWithin certifier.oldest (commits (event ∷ history.events)) (snapshot_of other (event ∷ history.events))
+    still_open other is_other =
+        still_within history certifier.oldest pruned event other calm (commits-event event history.events) (core.snapshots other is_other)
+
     -- the parts agree once more
-    pub agrees_after : (newer : List Event) (changed : List Session) (after : CommitList) (more room : ℕ) → newer ≡ event ∷ history.events → changed ≡ set sessions (session - 1) now
-        → certified (with_event history event) ≡ after.commits → after.oldest ≡ certifier.oldest → more + total_owed changed ≤ room
+    pub agrees_after : (newer : List Event) (changed : List Session) (after : Summaries) (more room : ℕ) → newer ≡ event ∷ history.events → changed ≡ set sessions (session - 1) now
+        → StandsFor after (record { oldest = pruned_at (with_event history event); commits = certified (with_event history event) })
+        → ((other : ℕ) → IsSession history.world other → IsWithin after.oldest (commits (event ∷ history.events)) (snapshot_of other (event ∷ history.events)))
+        → more + total_owed changed ≤ room
         → CoreInvariant (record { shape = history.shape; world = history.world; events = newer }) changed after more room
-    agrees_after newer changed after more room newer_is changed_is certified_is oldest_is owes =
-        let grown = commits-event event history.events in
-        let pruned : certifier.oldest ≤ commits history.events = omega (arith, core.oldest_is, commits_certified history certifier.commits core.certified_are) in
+    agrees_after newer changed after more room newer_is changed_is stands snapshots owes =
         let agreed : CoreInvariant (with_event history event) (set sessions (session - 1) now) after more room = record {
           number = length_set sessions (session - 1) now ∙ core.number;
           shaped = core.shaped;
           short = core.short;
-          each = λ other found first there. each_by other found (session == other) refl first there;
-          certified_are = certified_is;
-          oldest_is = omega (arith, oldest_is, pruned, grown, commits_certified (with_event history event) after.commits certified_is);
-          snapshots = λ other. rw oldest_is (still_within history certifier.oldest pruned event other calm grown (core.snapshots other));
+          each = each_after;
+          stands = stands;
+          snapshots = snapshots;
           unwanted = λ other. still_unwanted history event other calm (core.unwanted other);
           unswept = λ other. still_unswept history event other calm (core.unswept other);
           unattached = λ cluster. still_unattached history event cluster calm (core.unattached cluster);
@@ -253,7 +267,9 @@ module _ (history : History) (sessions : List Session) (certifier : CommitList) 
         let of_it = plain_session session event plain in
         agrees_after event of_it next (plain_calm history session event plain) now
         (kept_after_own history session kept is_kept event of_it (plain_opens session event plain) (of_open event plain next))
-        newer changed certifier more room newer_is changed_is (plain_certified history session event plain ∙ core.certified_are) refl owes
+        newer changed certifier more room newer_is changed_is (plain_stands history session event plain certifier core.stands)
+        (still_open event of_it next (plain_calm history session event plain) now
+        (kept_after_own history session kept is_kept event of_it (plain_opens session event plain) (of_open event plain next))) owes
 
   -- what is owed becomes less by an event for which room is kept
   pub owes_less : (kept : Session) → IsKept history session kept → (event : Event) → IsPlain session event → IsNextEvent history event → HasRoomKept history session event

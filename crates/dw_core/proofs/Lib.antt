@@ -8,3 +8,4 @@ pub mod Openings
 pub mod Committing
 pub mod OpenTransactions
 pub mod Driver
+pub mod Horizons

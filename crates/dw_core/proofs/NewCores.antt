@@ -8,7 +8,7 @@ use Rattle.dw_journal.specs.declared.Shape.{Shape}
 use Rattle.dw_journal.specs.declared.World.{World}
 use Rattle.dw_journal.specs.Worlds.{AreShort, session_count}
 use Rattle.dw_journal.specs.History.{History}
-use Rattle.dw_ssn.specs.CommitList.{CommitList}
+use Rattle.dw_ssn.specs.Summaries.{Summaries, StandsFor}
 use Rattle.dw_core.specs.declared.sessions.Session.{Session}
 use Rattle.dw_core.specs.declared.sessions.Stage.TheVariants as stage
 use Rattle.dw_core.specs.CoreInvariant.{CoreInvariant, IsKept, owed_events, total_owed}
@@ -42,19 +42,18 @@ module _ (shape : Shape) (world : World) where
   is_kept_fresh : (session : ℕ) → IsKept (at []) session fresh
   is_kept_fresh session = record { count_is = refl; block_is = refl; turn_is = refl; at_stage = tt; taken_is = refl; names = tt }
 
-  pub agrees_new : (items : List Event) (sessions : List Session) (certifier : CommitList) (count capacity : ℕ) → items ≡ [] → AreFresh sessions
-      → certifier.oldest ≡ 0 → certifier.commits ≡ [] → count ≡ 0 → length sessions ≡ session_count world → shape.sessions ≡ session_count world → AreShort world.scripts
+  pub agrees_new : (items : List Event) (sessions : List Session) (certifier : Summaries) (count capacity : ℕ) → items ≡ [] → AreFresh sessions
+      → StandsFor certifier (record { oldest = 0; commits = [] }) → count ≡ 0 → length sessions ≡ session_count world → shape.sessions ≡ session_count world → AreShort world.scripts
       → CoreInvariant (at (reverse items)) sessions certifier count capacity
-  agrees_new items sessions certifier count capacity none all oldest_is done_is count_is number shaped short =
+  agrees_new items sessions certifier count capacity none all stands count_is number shaped short =
       subst (λ (events : List Event). CoreInvariant (at (reverse events)) sessions certifier count capacity) (sym none)
       (record {
         number = number;
         shaped = shaped;
         short = short;
         each = λ session kept first there. subst (IsKept (at []) session) (sym (each_fresh sessions (session - 1) kept all there)) (is_kept_fresh session);
-        certified_are = sym done_is;
-        oldest_is = omega (arith, oldest_is);
-        snapshots = λ session. tt;
+        stands = stands;
+        snapshots = λ session is. tt;
         unwanted = λ session. refl;
         unswept = λ session. refl;
         unattached = λ cluster. refl;

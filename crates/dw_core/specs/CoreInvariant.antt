@@ -8,7 +8,7 @@ use Rattle.dw_journal.specs.declared.Event.{Event}
 use Rattle.dw_journal.specs.declared.Shape.{Shape}
 use Rattle.dw_journal.specs.declared.Taken.{Taken}
 use Rattle.dw_journal.specs.declared.World.{World}
-use Rattle.dw_journal.specs.Worlds.{session_count, given_at, statement_at, AreShort}
+use Rattle.dw_journal.specs.Worlds.{IsSession, session_count, given_at, statement_at, AreShort}
 use Rattle.dw_journal.specs.History.{History, newest_event, statements_taken}
 use Rattle.dw_journal.specs.Blocks.{block_of}
 use Rattle.dw_journal.specs.Transactions.{Transaction, transaction_of, opened_statements, snapshot_in, snapshot_of, taken_over, commits}
@@ -18,7 +18,8 @@ use Rattle.dw_journal.specs.Routes.{refreshed}
 use Rattle.dw_journal.specs.Turns.{Turn, Nothing, AnswerOf, CommitOf, Works, call_of_statement, taking, turn_after}
 use Rattle.dw_journal.specs.Follows.{EachFollows}
 use Rattle.dw_journal.specs.Legal.{EachIsLegal, certified}
-use Rattle.dw_ssn.specs.CommitList.{CommitList}
+use Rattle.dw_ssn.specs.Summaries.{Summaries, StandsFor}
+use Rattle.dw_core.specs.Pruned.{pruned_at}
 use Rattle.dw_core.specs.declared.sessions.Session.{Session}
 use Rattle.dw_core.specs.declared.sessions.Stage.{Stage}
 use Rattle.dw_core.specs.declared.sessions.Stage.TheVariants.{Between, Opened, Answered, Ended}
@@ -90,18 +91,18 @@ abbrev pub IsWithin : ℕ → ℕ → Option ℕ → Type 0
 IsWithin oldest commits None = Unit {0}
 IsWithin oldest commits (Some snapshot) = (oldest ≤ snapshot) × (snapshot ≤ commits)
 
--- The parts of a core agree with its history. There are so many events, with room for so many. No statement has wanted
--- a lock yet, no vacuum runs, and no cluster is attached.
-pub record CoreInvariant (history : History) (sessions : List Session) (certifier : CommitList) (count capacity : ℕ)
+-- The parts of a core agree with its history. The certifier stands for all commits, with the horizon just after the
+-- newest one as its oldest number. There are so many events, with room for so many. No statement has wanted a lock yet,
+-- no vacuum runs, and no cluster is attached.
+pub record CoreInvariant (history : History) (sessions : List Session) (certifier : Summaries) (count capacity : ℕ)
     : Type 0 where
   pub number : length sessions ≡ session_count history.world
   pub shaped : history.shape.sessions ≡ session_count history.world
   pub short : AreShort history.world.scripts
   pub each : (session : ℕ) (kept : Session) → 1 ≤ session → slice_get sessions (session - 1) ≡ Some kept
       → IsKept history session kept
-  pub certified_are : certified history ≡ certifier.commits
-  pub oldest_is : certifier.oldest ≤ length certifier.commits
-  pub snapshots : (session : ℕ)
+  pub stands : StandsFor certifier (record { oldest = pruned_at history; commits = certified history })
+  pub snapshots : (session : ℕ) → IsSession history.world session
       → IsWithin certifier.oldest (commits history.events) (snapshot_of session history.events)
   pub unwanted : (session : ℕ)
       → flat_map (wants_of history.world session) (opened_statements session history.events) ≡ []

@@ -7,7 +7,7 @@ use Rattle.dw_core.specs.declared.decisions.Committed.{Committed}
 use Rattle.dw_core.specs.declared.decisions.Committed.TheVariants.{Stamped, Violation, Memory}
 
 -- A transaction is committed where its low watermark is above its high one, or there is no memory for it. Else it is a
--- violation. The oldest snapshot that a transaction may have stays.
+-- violation. The oldest number stays.
 abbrev pub IsDecided : Taken → CommitList → CommitList → Committed → Type 0
 IsDecided taken before after (Stamped stamp low high) =
     (stamp ≡ length before.commits + 1)

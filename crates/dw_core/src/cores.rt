@@ -11,14 +11,16 @@ ghost use Rattle.dw_journal.specs.Vacuums.{swept_by};
 ghost use Rattle.dw_journal.specs.Locks.{blockers, lock_state};
 ghost use Rattle.dw_journal.specs.Turns.{AnswerOf, number_due, turn_of};
 ghost use Rattle.dw_journal.specs.Follows.{FollowsAfter};
-ghost use Rattle.dw_journal.specs.Legal.{IsLegal, IsNextEvent, high_of, low_of, snapshot_due};
+ghost use Rattle.dw_journal.specs.Legal.{IsLegal, IsNextEvent, certified, high_of, low_of, snapshot_due};
 ghost use Rattle.dw_core.specs.Changes.{HasRoomKept, IsPlain};
 ghost use Rattle.dw_core.specs.CoreInvariant.{IsKept};
 ghost use Rattle.dw_core.specs.DueEvents.{commit_due, decision_of, opening_due, route_due};
+ghost use Rattle.dw_ssn.specs.CommitList.{entry_count};
+ghost use Rattle.dw_core.specs.Pruned.{pruned_at};
 ghost use Rattle.dw_core.specs.Readers.{MeansTurn};
 ghost use Rattle.dw_core.specs.Traces.{LeavesNoTrace, LeavesUnlessStamped};
 
-use crate::decisions::{Committed, decide};
+use crate::decisions::{Committed, decide, settle};
 use crate::sessions::{Session, Stage, given, put};
 use crate::transactions::open;
 use dw_journal::{BlockState, Event, Given, Journal, Route, Shape, World, place_of};
@@ -95,7 +97,7 @@ impl Core {
     }
 
     /// What is kept of the session.
-    fn kept(&self, session: u32) -> &Session
+    fn keeping(&self, session: u32) -> &Session
         requires session { IsSession self.now.world session }
         ensures kept { IsKept self.now session result.now }
         ensures short { AreShort self.now.world.scripts }
@@ -110,7 +112,7 @@ impl Core {
         ensures turn { MeansTurn self.now session result.0 }
         ensures number { result.1 ≡ number_due self.now session }
     {
-        let kept = self.kept(session);
+        let kept = self.keeping(session);
         match kept.stage {
             Stage::Ended => (Next::Nothing, 0),
             Stage::Opened => (Next::Answer, kept.taken),
@@ -159,7 +161,7 @@ impl Core {
         requires session { IsSession self.now.world session }
         ensures { result ≡ block_of self.now session }
     {
-        self.kept(session).block
+        self.keeping(session).block
     }
 
     /// What the session's open transaction took, the open statement's objects among it.
@@ -168,7 +170,7 @@ impl Core {
         ensures taken { option_copied result ≡ taken_of self.now session }
         ensures snapshot { IfSome (taken_of self.now session) (λ taken. taken.snapshot ≤ commits self.now.events) }
     {
-        match &self.kept(session).transaction {
+        match &self.keeping(session).transaction {
             Some(transaction) => Some(&transaction.taken),
             None => None,
         }
@@ -389,8 +391,8 @@ impl Core {
     }
 
     /// Decides on the commit that is due of the session: the transaction is committed where its low watermark is above
-    /// its high one. Else it is a violation, and where memory runs out for the certifier, the commit is refused; both
-    /// leave no trace.
+    /// its high one, and the certifier is pruned at the horizon then. Else it is a violation, and where memory runs out
+    /// for the certifier, the commit is refused; both leave no trace.
     pub fn commit(&mut self, session: u32) -> Committed
         requires session { IsSession self.old.world session }
         requires follows { FollowsAfter self.old (commit_due self.old session) }
@@ -410,7 +412,16 @@ impl Core {
             session,
             event,
         );
+        settle(&mut self.certifier, self.sessions.as_slice(), &decided);
         decided
+    }
+
+    /// The number of entries that the certifier keeps: for each object one for each of its writers past the horizon of
+    /// the newest commit, and one more where it has a writer at or before that. It takes no memory.
+    pub fn kept(&self) -> u64
+        ensures { result ≡ entry_count (pruned_at self.now) (certified self.now) }
+    {
+        self.certifier.entries()
     }
 
     /// The journal of what happened, which is legal.

@@ -1,8 +1,14 @@
 //! How a commit is decided.
 ghost use Rattle.std.specs.Prelude.{◌≡◌, ◌<◌, ◌≤◌, Some, length, slice_get};
+ghost use Rattle.std.specs.List.{filter_map};
+ghost use Rattle.dw_model.specs.Objects.{IsAscendingObjects};
+ghost use Rattle.dw_ssn.specs.CommitList.{CommitList};
+ghost use Rattle.dw_ssn.specs.Summaries.{StandsFor};
+ghost use Rattle.dw_core.specs.Horizons.{kept_snapshot, least_among, settled};
 ghost use Rattle.dw_core.specs.Decisions.{IsDecided};
 ghost use Rattle.dw_core.specs.DueEvents.{decision_of};
 
+use crate::sessions::Session;
 use crate::transactions::Transaction;
 use dw_journal::Event;
 use dw_model::{Object, Refusal};
@@ -29,8 +35,11 @@ pub(crate) fn decide(
 ) -> (Committed, Event)
     requires names { transaction.named ≡ transaction.taken.reads }
     requires oldest { certifier.old.oldest ≤ transaction.taken.snapshot }
+    requires set { IsAscendingObjects transaction.taken.writes }
+    requires stands { (list : CommitList) × StandsFor certifier.old list }
     ensures event { result.1 ≡ decision_of session statement result.0 }
-    ensures decides { IsDecided transaction.taken certifier.old certifier.new result.0 }
+    ensures decides { (list : CommitList) → StandsFor certifier.old list
+        → (after : CommitList) × StandsFor certifier.new after × IsDecided transaction.taken list after result.0 }
 {
     let Transaction { taken, named } = transaction;
     let marks = certifier.watermarks(&taken);
@@ -72,6 +81,32 @@ pub(crate) fn decide(
             },
         ),
     }
+}
+
+/// Where a transaction was committed, the certifier is pruned at the horizon, which the sessions tell. It takes no
+/// memory.
+pub(crate) fn settle(certifier: &mut Certifier, sessions: &[Session], decided: &Committed)
+    ensures { (list : CommitList) → StandsFor certifier.old list → StandsFor certifier.new
+        (settled decided.now (least_among (length list.commits) (filter_map kept_snapshot sessions.now)) list) }
+{
+    if matches!(decided, Committed::Stamped { .. }) {
+        let horizon = horizon(certifier.len(), sessions);
+        certifier.prune(horizon);
+    }
+}
+
+/// The least of the number of commits and of the snapshots of the sessions' open transactions.
+fn horizon(commits: u64, sessions: &[Session]) -> u64
+    ensures within { result ≤ commits }
+    ensures least { result ≡ least_among commits (filter_map kept_snapshot sessions.now) }
+{
+    let mut least = commits;
+    for session in sessions {
+        if let Some(transaction) = &session.transaction {
+            least = least.min(transaction.taken.snapshot);
+        }
+    }
+    least
 }
 
 /// The object at this place. It takes no memory.

@@ -1,5 +1,5 @@
 //! Scripts run side by side, with ample memory.
-ghost use Rattle.std.specs.Prelude.{◌≡◌, ◌<◌, ◌^◌, ℕ, List as Items, Some, length, slice_get, IsTrue, OnOk};
+ghost use Rattle.std.specs.Prelude.{◌≡◌, ◌<◌, ◌^◌, ℕ, List as Items, Some, length, slice_get, IsTrue, OnOk, IfOk};
 ghost use Rattle.dw_model.specs.declared.statements.Statement.TheVariants as form;
 ghost use Rattle.dw_journal.specs.declared.Given.TheVariants.{Read};
 ghost use Rattle.dw_journal.specs.Worlds.{AreShort, session_count};
@@ -255,8 +255,10 @@ fn take_round(engine: &mut Engine, sessions: u32) -> Result<bool, AllocError>
     Ok(all_ended)
 }
 
-/// Runs scripts by a schedule, and then in turns to their end.
-fn run(alloc: Global, text: &str, moves: &str) -> Result<Ran, AllocError> {
+/// An engine of these scripts, with their number.
+fn start(alloc: Global, text: &str) -> Result<(Engine, u32), AllocError>
+    ensures { IfOk result (λ made. made.1 ≡ session_count made.0.world) }
+{
     let world = World {
         scripts: scripts(alloc, text)?,
         files: FileMap::new(alloc),
@@ -266,7 +268,13 @@ fn run(alloc: Global, text: &str, moves: &str) -> Result<Ran, AllocError> {
         return Err(AllocError);
     }
     let sessions = sessions as u32;
-    let mut engine = Engine::new(alloc, Shape::standard(sessions), world)?;
+    let engine = Engine::new(alloc, Shape::standard(sessions), world)?;
+    Ok((engine, sessions))
+}
+
+/// Runs scripts by a schedule, and then in turns to their end.
+fn run(alloc: Global, text: &str, moves: &str) -> Result<Ran, AllocError> {
+    let (mut engine, sessions) = start(alloc, text)?;
     take_moves(&mut engine, sessions, moves)?;
     for _ in 0..99 {
         if take_round(&mut engine, sessions)? {
@@ -274,6 +282,17 @@ fn run(alloc: Global, text: &str, moves: &str) -> Result<Ran, AllocError> {
         }
     }
     Err(AllocError)
+}
+
+/// How many entries the certifier keeps after each word of a schedule.
+fn kept_after(alloc: Global, text: &str, words: &str) -> Result<String, AllocError> {
+    let (mut engine, sessions) = start(alloc, text)?;
+    let mut kept = String::new(alloc);
+    for moves in words.split(' ') {
+        take_moves(&mut engine, sessions, moves)?;
+        kept.push_str(format!(in alloc; " {}", engine.core.kept())?.as_str())?;
+    }
+    Ok(kept)
 }
 
 fn told(alloc: Global, event: &Event) -> Result<String, AllocError> {
@@ -351,6 +370,23 @@ fn scripts_run_as_worked_out(rt: HostRuntime) -> Result<(), Fail> {
                 .ok_or("the table is there")?;
             assert_eq!(rt; table.rows.len(), count.parse::<usize>().unwrap_or(9));
         }
+    }
+    Ok(())
+}
+
+/// A table is created, and rows are put into it three times: alone, and while another session's snapshot from just
+/// after the first commit stays open.
+#[test]
+fn kept_entries(rt: HostRuntime) -> Result<(), Fail> {
+    let alloc = rt.alloc();
+    let alone = "create t; insert t 1; insert t 2; insert t 3";
+    let beside = "create t; insert t 1; insert t 2; insert t 3
+begin; select t; commit";
+    for (text, words, wanted) in [
+        (alone, "111 111 111 111", " 2 2 2 2"),
+        (beside, "111 22 111 111 111 222", " 2 2 3 4 5 2"),
+    ] {
+        assert_eq!(rt; kept_after(alloc, text, words)?.as_str(), wanted);
     }
     Ok(())
 }

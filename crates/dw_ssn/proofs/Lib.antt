@@ -1,2 +1,5 @@
-pub mod Rest
 pub mod Violated
+pub mod Parts
+pub mod Chains
+pub mod Places
+pub mod Pruning

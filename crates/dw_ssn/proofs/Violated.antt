@@ -1,5 +1,5 @@
 -- The object that a violation names.
-use Rattle.std.proofs.Common.{inl, inr, ◌≡◌, ℕ, ◌+◌, ◌<◌, ◌≤◌, min, List, [], ◌∷◌, ◌++◌, length, get_or, take, reverse, refl, sym, ap, subst, ◌∙◌, arith, Bool, true, false, cond}
+use Rattle.std.proofs.Common.{inl, inr, ◌≡◌, ℕ, ◌+◌, ◌<◌, ◌≤◌, min, List, [], ◌∷◌, ◌++◌, length, get_or, take, refl, sym, ap, subst, ◌∙◌, arith, Bool, true, false, cond}
 use Rattle.std.specs.Prelude.{◌&&◌, ◌||◌, ◌==◌, nat_lt, if◌then◌else◌, Option, Some, None, slice_get, option_and_then, is_some, IfSome}
 use Rattle.std.specs.List.{filter, fold, list_any}
 use Rattle.std.specs.Option.{option_map_or}
@@ -14,7 +14,6 @@ use Rattle.dw_model.proofs.ObjectSets.{same_object-back}
 use Rattle.dw_journal.specs.declared.Certified.{Certified}
 use Rattle.dw_journal.specs.declared.Taken.{Taken}
 use Rattle.dw_journal.specs.Watermarks.{counts_for_low, low_over, low_watermark, violated_object, overlaps, lesser, least_object, written_at_low}
-use Rattle.dw_ssn.proofs.Rest.{length_left}
 
 -- no commit that the snapshot sees counts
 pub written_at_low-all_seen : (low snapshot : ℕ) (commits : List Certified) (object : Object) → length commits ≤ snapshot
@@ -22,12 +21,6 @@ pub written_at_low-all_seen : (low snapshot : ℕ) (commits : List Certified) (o
 written_at_low-all_seen low snapshot [] object seen = refl
 written_at_low-all_seen low snapshot (commit ∷ older) object seen =
     grind (arith, nat_tests, written_at_low-all_seen low snapshot older object (omega arith))
-
--- where the snapshot sees all commits that are left, none of them counts
-pub written_none : (commits : List Certified) (left low snapshot : ℕ) (object : Object) → left ≤ length commits → left ≤ snapshot
-    → written_at_low low snapshot (reverse (take left commits)) object ≡ false
-written_none commits left low snapshot object within seen =
-    written_at_low-all_seen low snapshot (reverse (take left commits)) object (omega (arith, length_left commits left within))
 
 -- the least of one object more
 fold_push : {A B : Type 0} (f : B → A → B) (a : B) (xs : List A) (y : A) → fold f a (xs ++ y ∷ []) ≡ f (fold f a xs) y

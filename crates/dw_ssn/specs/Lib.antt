@@ -1,1 +1,5 @@
 pub mod CommitList
+pub mod Summaries
+pub mod OneObject
+pub mod Places
+pub mod Raised

@@ -1,13 +1,19 @@
-//! The list of commits, and the watermarks over it.
-ghost use Rattle.std.specs.Prelude.{◌≡◌, ◌+◌, ◌<◌, ◌≤◌, [], ◌∷◌, length, reverse, min, max, nat_eq, if◌then◌else◌, slice_get, option_and_then, IfSome, IsSome, OnOk, OnErr, IfOk};
-ghost use Rattle.dw_journal.specs.Watermarks.{low_watermark, high_watermark, counts_for_low, counts_for_high, violated_object};
+//! The certifier: what it keeps of the commits, and the watermarks over them.
+ghost use Rattle.std.specs.Prelude.{◌≡◌, ◌+◌, ◌<◌, ◌≤◌, [], ◌∷◌, ℕ, true, List as Items, length, map, filter, drop, max, min, nat_eq, slice_get, option_and_then, IfSome, IsSome, OnOk, OnErr, IfOk};
+ghost use Rattle.dw_journal.specs.declared.Certified.{Certified};
+ghost use Rattle.dw_journal.specs.Watermarks.{low_watermark, high_watermark, low_over, high_over, violated_object, least_object, written_at_low};
+ghost use Rattle.dw_model.specs.Objects.{IsAscendingObjects, is_among};
+ghost use Rattle.dw_ssn.specs.CommitList.{CommitList, newest_writer, entry_count};
+ghost use Rattle.dw_ssn.specs.Summaries.{StandsFor, newest_of};
+ghost use Rattle.dw_ssn.specs.OneObject.{low_at, seen_at, up_to};
 
-use crate::objects::have_common;
-use crate::violations::violated_place;
-use dw_journal::{Certified, Taken};
+use crate::objects::find;
+use crate::summaries::{Newest, Recent, drop_last, make_room, newest_at, raise, writers_before};
+use crate::violations::comes_first;
+use dw_journal::Taken;
 use dw_model::Object;
-use dw_value::List;
 use std::alloc::{AllocError, Global};
+use std::collections::VecDeque;
 use std::marker::Model;
 
 /// The watermarks of a transaction, and what a violation names.
@@ -24,108 +30,305 @@ pub struct Marks {
     pub by: Option<usize>,
 }
 
-/// The list of all commits, and the oldest snapshot that a transaction may still have. For every snapshot from that
-/// number to the list's length, and any objects, `watermarks` gives the two watermarks over the list. Contracts see it
-/// as the number with the list, the newest commit first. Pruning only raises the number so far: every commit is kept.
+/// What is kept of all commits, so that `watermarks` gives the two watermarks over the whole list of them for every
+/// snapshot from the oldest number to the list's length. Contracts see the summaries, and speak of each list of commits
+/// that they stand for: `admit` makes them stand for the list with one commit more, and `prune` for the same list with
+/// a higher oldest number. An object that was read or written keeps one entry of a few words, and each commit past the
+/// oldest number what it wrote.
 #[derive(Debug, Drop)]
 pub struct Certifier {
     oldest: u64,
-    commits: Vec<Certified>,
+    count: u64,
+    kept: u64,
+    objects: Vec<Object>,
+    stamps: Vec<Newest>,
+    recent: VecDeque<Recent>,
 }
 
 impl Model for Certifier {
-    ghost use Rattle.std.specs.Prelude.{◌≤◌, length, reverse};
-    ghost use Rattle.dw_ssn.specs.CommitList.{CommitList};
+    ghost use Rattle.std.specs.Prelude.{◌≡◌, ◌+◌, ◌<◌, ◌^◌, length};
+    ghost use Rattle.dw_model.specs.Objects.{IsAscendingObjects};
+    ghost use Rattle.dw_ssn.specs.Summaries.{Summaries};
 
-    ghost Value = { CommitList };
+    ghost Value = { Summaries };
 
-    ghost view = { λ certifier. record { oldest = certifier.oldest; commits = reverse certifier.commits.items } };
+    ghost view = { λ certifier. record {
+      oldest = certifier.oldest;
+      count = certifier.count;
+      kept = certifier.kept;
+      objects = certifier.objects.items;
+      stamps = certifier.stamps.items;
+      recent = certifier.recent.items;
+    } };
 
-    ghost invariant = { λ certifier. certifier.oldest ≤ length certifier.commits.items };
+    ghost invariant = { λ certifier. IsAscendingObjects certifier.objects.items
+        × (length certifier.objects.items ≡ length certifier.stamps.items)
+        × (certifier.count + 1 < 2 ^ 64) };
 }
 
 impl Certifier {
-    /// A certifier of no commit, whose oldest snapshot is 0.
+    /// A certifier of no commit, whose oldest number is 0.
     pub fn new(alloc: Global) -> Certifier
-        ensures oldest { result.oldest ≡ 0 }
-        ensures commits { result.commits ≡ [] }
+        ensures stands { StandsFor result (record { oldest = 0; commits = [] }) }
     {
         Certifier {
             oldest: 0,
-            commits: Vec::new(alloc),
+            count: 0,
+            kept: 0,
+            objects: Vec::new(alloc),
+            stamps: Vec::new(alloc),
+            recent: VecDeque::new(alloc),
         }
     }
 
     /// The number of commits.
     pub fn len(&self) -> u64
-        ensures { result ≡ length self.now.commits }
+        ensures count { result ≡ self.now.count }
+        ensures len { (list : CommitList) → StandsFor self.now list → result ≡ length list.commits }
     {
-        self.commits.len() as u64
+        self.count
     }
 
     /// Whether there is no commit.
     pub fn is_empty(&self) -> bool
-        ensures { result ≡ nat_eq (length self.now.commits) 0 }
+        ensures { (list : CommitList) → StandsFor self.now list → result ≡ nat_eq (length list.commits) 0 }
     {
-        self.commits.is_empty()
+        self.count == 0
     }
 
     /// The oldest snapshot that a transaction may still have. It is at most the number of commits.
     pub fn oldest(&self) -> u64
         ensures oldest { result ≡ self.now.oldest }
-        ensures within { result ≤ length self.now.commits }
+        ensures within { (list : CommitList) → StandsFor self.now list → result ≤ length list.commits }
     {
         self.oldest
     }
 
+    /// The number of entries: for each object one for each of its writers past the oldest number, and one more where it
+    /// has a writer at or before it. It takes no memory.
+    pub fn entries(&self) -> u64
+        ensures { (list : CommitList) → StandsFor self.now list → result ≡ entry_count list.oldest list.commits }
+    {
+        self.kept
+    }
+
     /// The watermarks that a transaction has if it is the next one to commit, over all commits, and the object that a
-    /// violation names. Its snapshot is not before the oldest one. It takes no memory.
+    /// violation names. Its snapshot is not before the oldest number. It takes no memory.
     pub fn watermarks(&self, taken: &Taken) -> Marks
         requires oldest { self.now.oldest ≤ taken.now.snapshot }
-        ensures low { result.low ≡ low_watermark taken.now self.now.commits }
-        ensures high { result.high ≡ high_watermark taken.now self.now.commits }
-        ensures by { option_and_then (slice_get taken.now.reads) result.by
-            ≡ violated_object taken.now self.now.commits }
+        ensures low { (list : CommitList) → StandsFor self.now list → result.low ≡ low_watermark taken.now list.commits }
+        ensures high { (list : CommitList) → StandsFor self.now list
+            → result.high ≡ high_watermark taken.now list.commits }
+        ensures by { (list : CommitList) → StandsFor self.now list
+            → option_and_then (slice_get taken.now.reads) result.by ≡ violated_object taken.now list.commits }
         ensures within { IfSome result.by (λ place. place < length taken.now.reads) }
-        ensures named { result.low ≤ length self.now.commits → IsSome result.by }
-        ensures bounded { result.high ≤ length self.now.commits }
+        ensures named { (list : CommitList) → StandsFor self.now list
+            → result.low ≤ length list.commits → IsSome result.by }
+        ensures bounded { (list : CommitList) → StandsFor self.now list → result.high ≤ length list.commits }
     {
-        let bounds = bounds_over(self.commits.as_slice(), taken);
+        let bounds = self.bounds_written(taken, self.bounds_read(taken));
         Marks {
             low: bounds.low,
             high: bounds.high,
-            by: violated_place(
-                self.commits.as_slice(),
-                taken.snapshot,
-                bounds.low,
-                taken.reads.as_slice(),
-            ),
+            by: self.violated_place(taken.reads.as_slice(), taken.snapshot, bounds.low),
         }
     }
 
-    /// Adds a transaction that is committed now, and gives its stamp. The oldest snapshot stays. Where memory runs out,
-    /// nothing is added.
+    /// Adds a transaction that is committed now, and gives its stamp. The oldest number stays. Where memory runs out, or
+    /// the stamps do, nothing is added.
     pub fn admit(&mut self, taken: Taken, marks: Marks) -> Result<u64, AllocError>
-        ensures stamp { IfOk result (λ stamp. stamp ≡ length self.old.commits + 1) }
-        ensures added { OnOk result (self.new.commits ≡ record { low = marks.low; taken = taken } ∷ self.old.commits) }
-        ensures oldest { OnOk result (self.new.oldest ≡ self.old.oldest) }
-        ensures err { OnErr result (self.new ≡ self.old) }
+        requires set { IsAscendingObjects taken.writes }
+        ensures stamp { (list : CommitList) → StandsFor self.old list
+            → IfOk result (λ stamp. stamp ≡ length list.commits + 1) }
+        ensures added { (list : CommitList) → StandsFor self.old list → OnOk result (StandsFor self.new
+            (record { oldest = list.oldest; commits = record { low = marks.low; taken = taken } ∷ list.commits })) }
+        ensures err { (list : CommitList) → StandsFor self.old list → OnErr result (StandsFor self.new list) }
+        ensures oldest { self.new.oldest ≡ self.old.oldest }
     {
-        self.commits.push(Certified {
+        let more = taken.writes.len() as u64;
+        if self.count >= u64::MAX - 1 || self.kept > u64::MAX - more {
+            return Err(AllocError);
+        }
+        let alloc = *self.objects.allocator();
+        let before = writers_before(
+            alloc,
+            self.objects.as_slice(),
+            self.stamps.as_slice(),
+            taken.writes.as_slice(),
+        )?;
+        make_room(&mut self.objects, &mut self.stamps, taken.reads.as_slice())?;
+        make_room(&mut self.objects, &mut self.stamps, taken.writes.as_slice())?;
+        self.recent.reserve(1)?;
+        let stamp = self.count + 1;
+        raise(
+            self.objects.as_slice(),
+            &mut self.stamps,
+            taken.reads.as_slice(),
+            stamp,
+            false,
+        );
+        raise(
+            self.objects.as_slice(),
+            &mut self.stamps,
+            taken.writes.as_slice(),
+            stamp,
+            true,
+        );
+        self.recent.push_front_reserved(Recent {
             low: marks.low,
-            taken,
-        })?;
-        Ok(self.commits.len() as u64)
+            writes: taken.writes,
+            before,
+        });
+        self.kept += more;
+        self.count = stamp;
+        Ok(stamp)
     }
 
     /// From now on no transaction has a snapshot below `oldest`, which is at most the number of commits. A number below
-    /// the oldest snapshot changes nothing, since that never falls. The commits stay. It takes no memory.
+    /// the oldest one changes nothing, since that never falls. It takes no memory, and the time of what it takes away.
     pub fn prune(&mut self, oldest: u64)
-        requires { oldest ≤ length self.old.commits }
+        requires { oldest ≤ self.old.count }
+        ensures stands { (list : CommitList) → StandsFor self.old list
+            → StandsFor self.new (record { oldest = max list.oldest oldest; commits = list.commits }) }
         ensures oldest { self.new.oldest ≡ max self.old.oldest oldest }
-        ensures commits { self.new.commits ≡ self.old.commits }
     {
-        self.oldest = self.oldest.max(oldest);
+        while self.oldest < oldest {
+            self.drop_oldest();
+        }
+    }
+
+    /// The oldest number rises by one.
+    fn drop_oldest(&mut self)
+        requires { self.old.oldest < self.old.count }
+        ensures stands { (list : CommitList) → StandsFor self.old list
+            → StandsFor self.new (record { oldest = list.oldest + 1; commits = list.commits }) }
+        ensures oldest { self.new.oldest ≡ self.old.oldest + 1 }
+        ensures count { self.new.count ≡ self.old.count }
+    {
+        self.kept = self.kept.saturating_sub(drop_last(&mut self.recent));
+        self.oldest += 1;
+    }
+
+    /// The newest stamps of an object.
+    fn newest(&self, object: &Object) -> Newest
+        ensures { (list : CommitList) → StandsFor self.now list → result ≡ newest_of object.now list.commits }
+    {
+        newest_at(self.objects.as_slice(), self.stamps.as_slice(), object)
+    }
+
+    /// Of a commit past the oldest number that wrote the object: its low watermark, and the writer before it.
+    fn writer_at(&self, object: &Object, at: u64) -> Writer
+        requires { 0 < at }
+        ensures falls { result.before < at }
+        ensures is { (list : CommitList) → (commit : Certified) → (older : Items Certified) → StandsFor self.now list
+            → list.oldest < at → up_to at list.commits ≡ commit ∷ older → length (commit ∷ older) ≡ at
+            → is_among object.now commit.taken.writes ≡ true
+            → (result.low ≡ commit.low) × (result.before ≡ newest_writer object.now older) }
+    {
+        let found = self.recent.get(self.count.saturating_sub(at) as usize);
+        match found {
+            Some(commit) => Writer {
+                low: commit.low,
+                before: before_in(commit, object).min(at - 1),
+            },
+            None => Writer { low: 0, before: 0 },
+        }
+    }
+
+    /// What one object that was read adds to the watermarks: it goes from writer to writer, as far as the snapshot.
+    fn bounds_of(&self, object: &Object, snapshot: u64) -> Bounds
+        requires { self.now.oldest ≤ snapshot }
+        ensures low { (list : CommitList) → StandsFor self.now list
+            → result.low ≡ low_at (length list.commits + 1) snapshot object.now list.commits }
+        ensures high { (list : CommitList) → StandsFor self.now list
+            → result.high ≡ seen_at snapshot object.now list.commits }
+    {
+        let mut low = self.count + 1;
+        let mut at = self.newest(object).writer;
+        while at > snapshot {
+            let writer = self.writer_at(object, at);
+            low = low.min(writer.low);
+            at = writer.before;
+        }
+        Bounds { low, high: at }
+    }
+
+    /// Whether a commit after the snapshot, of this low watermark, wrote the object.
+    fn is_written_at(&self, object: &Object, snapshot: u64, low: u64) -> bool
+        requires { self.now.oldest ≤ snapshot }
+        ensures { (list : CommitList) → StandsFor self.now list
+            → result ≡ written_at_low low snapshot list.commits object.now }
+    {
+        let mut at = self.newest(object).writer;
+        while at > snapshot {
+            let writer = self.writer_at(object, at);
+            if writer.low == low {
+                return true;
+            }
+            at = writer.before;
+        }
+        false
+    }
+
+    /// What the objects that were read add to the watermarks.
+    fn bounds_read(&self, taken: &Taken) -> Bounds
+        requires { self.now.oldest ≤ taken.now.snapshot }
+        ensures low { (list : CommitList) → StandsFor self.now list → result.low ≡ low_watermark taken.now list.commits }
+        ensures high { (list : CommitList) → StandsFor self.now list → result.high
+            ≡ high_over (record { snapshot = taken.now.snapshot; reads = taken.now.reads; writes = [] }) list.commits }
+    {
+        let reads = taken.reads.as_slice();
+        let mut bounds = Bounds {
+            low: self.count + 1,
+            high: 0,
+        };
+        let mut left = reads.len();
+        while left > 0 {
+            left -= 1;
+            let one = self.bounds_of(&reads[left], taken.snapshot);
+            bounds = Bounds {
+                low: one.low.min(bounds.low),
+                high: one.high.max(bounds.high),
+            };
+        }
+        bounds
+    }
+
+    /// With what the objects that were written add to the high one.
+    fn bounds_written(&self, taken: &Taken, read: Bounds) -> Bounds
+        ensures low { result.low ≡ read.low }
+        ensures high { (list : CommitList) → StandsFor self.now list → read.high
+            ≡ high_over (record { snapshot = taken.now.snapshot; reads = taken.now.reads; writes = [] }) list.commits
+            → result.high ≡ high_watermark taken.now list.commits }
+    {
+        let writes = taken.writes.as_slice();
+        let mut high = read.high;
+        let mut left = writes.len();
+        while left > 0 {
+            left -= 1;
+            let newest = self.newest(&writes[left]);
+            high = newest.writer.max(newest.reader).max(high);
+        }
+        Bounds {
+            low: read.low,
+            high,
+        }
+    }
+
+    /// The place of the least object, of those read, that a commit after the snapshot, of this low watermark, wrote.
+    fn violated_place(&self, reads: &[Object], snapshot: u64, low: u64) -> Option<usize>
+        requires { self.now.oldest ≤ snapshot }
+        ensures least { (list : CommitList) → StandsFor self.now list → option_and_then (slice_get reads.now) result
+            ≡ least_object (filter (written_at_low low snapshot list.commits) reads.now) }
+        ensures within { IfSome result (λ place. place < length reads.now) }
+    {
+        let mut least = None;
+        for (place, object) in reads.iter().enumerate() {
+            if self.is_written_at(object, snapshot, low) && comes_first(object, reads, least) {
+                least = Some(place);
+            }
+        }
+        least
     }
 }
 
@@ -136,59 +339,30 @@ struct Bounds {
     high: u64,
 }
 
-/// The watermarks over these commits, the oldest first. It looks from the newest one back, and stops where no older one
-/// can count.
-fn bounds_over(commits: &[Certified], taken: &Taken) -> Bounds
-    ensures low { result.low ≡ low_watermark taken.now (reverse commits.now) }
-    ensures high { result.high ≡ high_watermark taken.now (reverse commits.now) }
-{
-    let mut left = commits.len();
-    let mut bounds = Bounds {
-        low: left as u64 + 1,
-        high: 0,
-    };
-    while left > 0 {
-        if left as u64 <= taken.snapshot && left as u64 <= bounds.high {
-            return bounds;
-        }
-        bounds = with_commit(bounds, &commits[left - 1], left as u64, taken);
-        left -= 1;
-    }
-    bounds
+/// A commit that wrote an object: its low watermark, and the stamp of the writer before it.
+#[derive(Clone, Copy)]
+struct Writer {
+    low: u64,
+    before: u64,
 }
 
-/// The watermarks with one more commit, of this stamp.
-fn with_commit(bounds: Bounds, commit: &Certified, stamp: u64, taken: &Taken) -> Bounds
-    ensures low { result.low ≡ (if counts_for_low stamp taken.now commit.now
-        then min commit.now.low bounds.low else bounds.low) }
-    ensures high { result.high ≡ (if counts_for_high stamp taken.now commit.now
-        then max stamp bounds.high else bounds.high) }
+/// The writer of the object before this commit, or 0.
+fn before_in(commit: &Recent, object: &Object) -> u64
+    ensures { (older : Items Certified) → IsAscendingObjects commit.now.writes → is_among object.now commit.now.writes ≡ true
+        → commit.now.before ≡ map (λ other. newest_writer other older) commit.now.writes
+        → result ≡ newest_writer object.now older }
 {
-    let reads = taken.reads.as_slice();
-    let writes = taken.writes.as_slice();
-    let has_written = have_common(commit.taken.writes.as_slice(), reads);
-    let counts_for_low = taken.snapshot < stamp && has_written;
-    let counts_for_high = stamp <= taken.snapshot && has_written
-        || have_common(commit.taken.writes.as_slice(), writes)
-        || have_common(commit.taken.reads.as_slice(), writes);
-    Bounds {
-        low: if counts_for_low {
-            commit.low.min(bounds.low)
-        } else {
-            bounds.low
-        },
-        high: if counts_for_high {
-            stamp.max(bounds.high)
-        } else {
-            bounds.high
-        },
+    match find(commit.writes.as_slice(), object) {
+        Ok(place) => commit.before.get(place).copied().unwrap_or(0),
+        Err(_) => 0,
     }
 }
 
 #[cfg(test)]
 mod tests {
     use super::*;
-    use dw_value::Text;
+    use dw_model::add_objects;
+    use dw_value::{List, Text};
     use std::test::Fail;
 
     /// A letter in lower case names a table's rows, one in upper case its definition.
@@ -206,12 +380,23 @@ mod tests {
         Ok(objects)
     }
 
+    /// The set of these objects.
+    fn set(alloc: Global, letters: &str) -> Result<List<Object>, AllocError>
+        ensures { IfOk result IsAscendingObjects }
+    {
+        let mut set = List::new(alloc);
+        add_objects(&mut set, objects(alloc, letters)?)?;
+        Ok(set)
+    }
+
     /// A transaction of this snapshot that reads and writes these objects.
-    fn taken(alloc: Global, snapshot: u64, reads: &str, writes: &str) -> Result<Taken, AllocError> {
+    fn taken(alloc: Global, snapshot: u64, reads: &str, writes: &str) -> Result<Taken, AllocError>
+        ensures { IfOk result (λ taken. IsAscendingObjects taken.writes) }
+    {
         Ok(Taken {
             snapshot,
             reads: objects(alloc, reads)?,
-            writes: objects(alloc, writes)?,
+            writes: set(alloc, writes)?,
         })
     }
 
@@ -276,6 +461,30 @@ mod tests {
         certifier.prune(last);
         certifier.prune(0);
         assert_eq!(rt; certifier.oldest(), 4);
+        Ok(())
+    }
+
+    /// A table is created, and rows are put into it three times: all is pruned, or a snapshot after the first commit
+    /// stays open.
+    #[test]
+    fn entries_of_commits(rt: HostRuntime) -> Result<(), Fail> {
+        for (open, wanted) in [(9, [2, 2, 2, 2]), (1, [2, 3, 4, 5])] {
+            let mut certifier = Certifier::new(rt.alloc());
+            for (place, entries) in wanted.into_iter().enumerate() {
+                let taken = if place == 0 {
+                    taken(rt.alloc(), 0, "Tt", "Tt")?
+                } else {
+                    taken(rt.alloc(), place as u64, "T", "t")?
+                };
+                assert!(rt; certifier.oldest() <= taken.snapshot);
+                let marks = certifier.watermarks(&taken);
+                let stamp = certifier.admit(taken, marks)?;
+                let last = certifier.len();
+                assert_eq!(rt; stamp, last);
+                certifier.prune(last.min(open));
+                assert_eq!(rt; certifier.entries(), entries, "at {place}");
+            }
+        }
         Ok(())
     }
 }

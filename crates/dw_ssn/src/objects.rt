@@ -1,20 +1,30 @@
-//! Sets of objects, as lists.
-ghost use Rattle.std.specs.Prelude.{◌≡◌};
-ghost use Rattle.dw_model.specs.Objects.{is_among};
-ghost use Rattle.dw_journal.specs.Watermarks.{overlaps};
+//! Ascending lists of objects.
+ghost use Rattle.std.specs.Prelude.{◌≡◌, ◌<◌, ◌≤◌, false, length, slice_get, MatchResult};
+ghost use Rattle.std.specs.Option.{option_map_or};
+ghost use Rattle.dw_model.specs.Objects.{IsAscendingObjects, same_object};
+ghost use Rattle.dw_ssn.specs.Places.{IsFound};
 
 use dw_model::Object;
 
-/// Whether an object is among these.
-pub(crate) fn contains(objects: &[Object], object: &Object) -> bool
-    ensures { result ≡ is_among object.now objects.now }
+/// The place of an object in an ascending list, by binary search, or the place to which it would go.
+pub(crate) fn find(objects: &[Object], object: &Object) -> Result<usize, usize>
+    ensures found { IsAscendingObjects objects.now → IsFound object.now objects.now result }
+    ensures within { MatchResult result (λ place. place < length objects.now) (λ place. place ≤ length objects.now) }
 {
-    objects.iter().any(|other| object.is_same(other))
+    let place = objects.partition_point(|other| other.is_before(object));
+    if stands_at(objects, place, object) {
+        Ok(place)
+    } else {
+        Err(place)
+    }
 }
 
-/// Whether two sets have an object in common.
-pub(crate) fn have_common(a: &[Object], b: &[Object]) -> bool
-    ensures { result ≡ overlaps a.now b.now }
+/// Whether the object stands at this place.
+fn stands_at(objects: &[Object], place: usize, object: &Object) -> bool
+    ensures { result ≡ option_map_or (same_object object.now) (slice_get objects.now place) false }
 {
-    a.iter().any(|object| contains(b, object))
+    match objects.get(place) {
+        Some(other) => object.is_same(other),
+        None => false,
+    }
 }

@@ -15,5 +15,5 @@ loop-preserved c =
 
 pub invariant_of-result : goal.invariant_of-result
 invariant_of-result c =
-    agrees_new c.args.shape c.args.world c.new.result.items c.loop.sessions.items c.new-2.result _ _ c.new.ensures.items c.loop.invariant.1 c.new-2.ensures.oldest c.new-2.ensures.commits c.new.ensures.len
+    agrees_new c.args.shape c.args.world c.new.result.items c.loop.sessions.items c.new-2.result _ _ c.new.ensures.items c.loop.invariant.1 c.new-2.ensures.stands c.new.ensures.len
     (omega (arith, c.loop.invariant.0, c.loop-test.false, c.requires.sessions)) c.requires.sessions c.requires.short

@@ -15,7 +15,7 @@ use Rattle.dw_core.specs.declared.transactions.Transaction.{Transaction}
 use Rattle.dw_core.specs.Changes.{footprint_of, session_after, opened_transaction}
 use Rattle.dw_core.specs.CoreInvariant.{CoreInvariant, IsKept}
 use Rattle.dw_core.specs.DueEvents.{opening_due, route_due}
-use Rattle.dw_core.proofs.CoreSteps.{agrees_after, newest_first, room_made, roomier, set_after}
+use Rattle.dw_core.proofs.CoreSteps.{agrees_after, still_open, newest_first, room_made, roomier, set_after}
 use Rattle.dw_core.proofs.KeptSessions.{found}
 use Rattle.dw_core.proofs.NextEvents.{are_sets, kept_opened}
 use Rattle.dw_core.proofs.NoLocks.{route_main}
@@ -88,7 +88,7 @@ invariant_of-self-2 c =
     let changed = set_after (session_after i.world event) i.sessions.items _ c.place_of.result session _ c.place_of.ensures within c.put.ensures.kept in
     let room = room_made history i.sessions.items i.certifier _ _ core session is now _ _ _ changed (c.put.ensures.len ∙ ap (λ n. n + 1) c.make_room.ensures.len)
     (omega (arith, c.in_ok-make_room.ensures.room, c.make_room.ensures.len, c.put.ensures.capacity)) in
-    agrees_after history i.sessions.items i.certifier _ _ core session is event refl next (one.wants, one.sees) now is_kept _ _ i.certifier _ _ newer changed core.certified_are refl room
+    agrees_after history i.sessions.items i.certifier _ _ core session is event refl next (one.wants, one.sees) now is_kept _ _ i.certifier _ _ newer changed core.stands (still_open history i.sessions.items i.certifier _ _ core session is event refl next (one.wants, one.sees) now is_kept) room
 
 pub returns-clause-ok : goal.returns-clause-ok
 returns-clause-ok c =
