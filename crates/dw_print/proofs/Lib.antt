@@ -5,3 +5,5 @@ pub mod Numbers
 pub mod Items
 pub mod Texts
 pub mod LineItems
+pub mod Taking
+pub mod TakenParts

@@ -8,3 +8,4 @@ pub mod Checked
 pub mod Reading
 pub mod EventReading
 pub mod ReportReading
+pub mod Readable

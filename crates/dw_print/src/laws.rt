@@ -1,7 +1,15 @@
 //! Laws about the text of reports: calls that do nothing, whose contracts speak of every text.
-ghost use Rattle.std.specs.Prelude.{◌≡◌, ℕ, List as Items};
+ghost use Rattle.std.specs.Prelude.{◌≡◌, ◌++◌, ℕ, List as Items, Some, decimal};
+ghost use Rattle.std.specs.List.{AllByRecursion};
+ghost use Rattle.std.specs.Str.{IsUtf8};
+ghost use Rattle.dw_journal.specs.declared.Shape.{Shape as WarehouseShape};
 ghost use Rattle.dw_value.specs.declared.values.Field.{Field as Shown};
-ghost use Rattle.dw_print.specs.Fields.{field, shown_field, text_of_field};
+ghost use Rattle.dw_print.specs.Fields.{field, numbers_text, shown_field, text_of_field};
+ghost use Rattle.dw_print.specs.Readable.{AreReadable, IsFromTo, IsReadableField, IsReadableShape, IsShort};
+ghost use Rattle.dw_print.specs.Reading.{names_at, number_at, row_at, sessions_at, shown_at, text_at};
+ghost use Rattle.dw_print.specs.Report.{header};
+ghost use Rattle.dw_print.specs.ReportReading.{shape_at};
+ghost use Rattle.dw_print.specs.Rows.{fields_line, names_line};
 
 /// A field stands for the text that it was printed from, so texts that are printed alike are the same.
 pub fn fields_read_back()
@@ -12,4 +20,23 @@ pub fn fields_read_back()
 /// Fields of answers that are printed alike are the same, so what stands for NULL stands for no text.
 pub fn shown_fields_are_apart()
     ensures { (a b : Shown) → shown_field a ≡ shown_field b → a ≡ b }
+{}
+
+/// What is read stands at the front of the bytes just as it is printed, and it fits: numbers, names, fields and lists of
+/// sessions, the lines of an answer's names and rows, and the first line of a report.
+pub fn read_parts_are_printed()
+    ensures numbers { (least most number : ℕ) (bytes rest : Items ℕ) → number_at least most bytes ≡ Some (number, rest) →
+        (bytes ≡ decimal number ++ rest) × IsFromTo least most number }
+    ensures texts { (bytes rest text : Items ℕ) → text_at bytes ≡ Some (text, rest) →
+        (bytes ≡ field text ++ rest) × IsUtf8 text }
+    ensures fields { (bytes rest : Items ℕ) (shown : Shown) → shown_at bytes ≡ Some (shown, rest) →
+        (bytes ≡ shown_field shown ++ rest) × IsReadableField shown }
+    ensures sessions { (bytes rest sessions : Items ℕ) → sessions_at bytes ≡ Some (sessions, rest) →
+        (bytes ≡ numbers_text sessions ++ rest) × AllByRecursion IsShort sessions }
+    ensures names { (bytes rest : Items ℕ) (names : Items (Items ℕ)) → names_at bytes ≡ Some (names, rest) →
+        (bytes ≡ names_line names ++ rest) × AreReadable IsUtf8 names }
+    ensures rows { (bytes rest : Items ℕ) (row : Items Shown) → row_at bytes ≡ Some (row, rest) →
+        (bytes ≡ fields_line row ++ rest) × AreReadable IsReadableField row }
+    ensures shape { (bytes rest : Items ℕ) (shape : WarehouseShape) → shape_at bytes ≡ Some (shape, rest) →
+        (bytes ≡ header shape ++ rest) × IsReadableShape shape }
 {}
