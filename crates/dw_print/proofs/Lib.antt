@@ -7,3 +7,5 @@ pub mod Texts
 pub mod LineItems
 pub mod Taking
 pub mod TakenParts
+pub mod TakenEvents
+pub mod TakenLines

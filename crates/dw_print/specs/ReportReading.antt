@@ -1,6 +1,7 @@
 -- How the journal of a report is read, line by line. Where a line isn't one of the report's, its place is told by how many
 -- bytes there are from where it begins, or should begin, to the end.
-use Rattle.std.specs.Prelude.{◌≡◌, ℕ, zero, suc, ◌+◌, ◌-◌, Bool, true, ◌==◌, if◌then◌else◌, Option, Some, None, Result, Ok, Err, List, [], ◌∷◌, ◌++◌, length, take, codes}
+use Rattle.std.specs.Prelude.{◌≡◌, ℕ, zero, suc, ◌+◌, ◌-◌, Bool, true, ◌==◌, if◌then◌else◌, Option, Some, None, Result, Ok, Err, List, [], ◌∷◌, ◌++◌, length, take, drop, codes}
+use Rattle.std.specs.List.{AllByRecursion}
 use Rattle.std.specs.Option.{is_some}
 use Rattle.dw_value.specs.declared.values.Field.{Field}
 use Rattle.dw_model.specs.declared.answers.Answer.TheVariants as answers
@@ -18,6 +19,9 @@ use Rattle.dw_print.specs.declared.faults.ReportFault.TheVariants as reports
 use Rattle.dw_print.specs.declared.reading.ReadReport.{ReadReport}
 use Rattle.dw_print.specs.declared.read_events.Head.{Head}
 use Rattle.dw_print.specs.declared.read_events.Head.TheVariants as heads
+use Rattle.dw_print.specs.Events.{journal_lines}
+use Rattle.dw_print.specs.Readable.{IsReadableEvent, IsReadableShape}
+use Rattle.dw_print.specs.Report.{header}
 use Rattle.dw_print.specs.Reading.{Reading, after, after_label, both, line, names_at, number_at, row_at}
 use Rattle.dw_print.specs.EventReading.{head_at}
 
@@ -123,3 +127,9 @@ abbrev pub GivesReport : Result ReadReport ReportFault → List ℕ → Result (
 GivesReport (Ok read) bytes part = (x : Journal × List ℕ) × (part ≡ Ok x) × IsReadOf bytes read x
 GivesReport (Err reports.Memory) bytes part = Unit {0}
 GivesReport (Err (reports.Bad number)) bytes part = (left : ℕ) × (part ≡ Err left) × (number ≡ line_at (length bytes - left) bytes)
+
+-- the journal that was read is printed at the front of the bytes, up to the place of the line after it, and it fits
+abbrev pub IsPrintedIn : List ℕ → ReadReport → Type 0
+IsPrintedIn bytes read =
+    (bytes ≡ header read.journal.shape ++ journal_lines 1 read.journal.events ++ drop read.place bytes)
+    × IsReadableShape read.journal.shape × AllByRecursion IsReadableEvent read.journal.events

@@ -1,9 +1,9 @@
 //! The journal of a report as it is read.
-ghost use Rattle.std.specs.Prelude.{◌≡◌, ◌-◌, ◌+◌, length, take, drop};
+ghost use Rattle.std.specs.Prelude.{◌≡◌, ◌-◌, ◌+◌, length, take, IfOk};
 ghost use Rattle.dw_print.specs.Reading.{Gives, after, names_at, number_at, row_at};
 ghost use Rattle.dw_print.specs.EventReading.{head_at};
 ghost use Rattle.dw_print.specs.ReportReading.{GivesLines, all_events_at, ends_journal, event_after, event_at, fault_at};
-ghost use Rattle.dw_print.specs.ReportReading.{GivesReport};
+ghost use Rattle.dw_print.specs.ReportReading.{GivesReport, IsPrintedIn};
 ghost use Rattle.dw_print.specs.ReportReading.{journal_at, line_feeds, lined, rows_at, shape_at};
 
 use crate::faults::{LineFault, PartFault, ReportFault};
@@ -223,6 +223,14 @@ fn line_after(bytes: &[u8]) -> u64
 /// `Bad` comes for the first line that isn't so, also where it is wanting; `Memory` where memory ran out. The time is
 /// linear in the bytes. The form of the lines is this project's own.
 pub fn read_report(alloc: Global, bytes: &[u8]) -> Result<ReadReport, ReportFault>
+    ensures found { IfOk result (λ read. IsPrintedIn bytes.now read) }
+    ensures exact { GivesReport result bytes.now (journal_at bytes.now) }
+{
+    read_up_to_end(alloc, bytes)
+}
+
+/// The journal, with the place and the number of the line after it, or the number of the first bad line.
+fn read_up_to_end(alloc: Global, bytes: &[u8]) -> Result<ReadReport, ReportFault>
     ensures exact { GivesReport result bytes.now (journal_at bytes.now) }
 {
     match read_journal(alloc, bytes) {
