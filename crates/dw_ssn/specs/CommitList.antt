@@ -27,5 +27,6 @@ newest_reader object (commit ∷ older) =
 abbrev pub entry_count : ℕ → List Certified → ℕ
 entry_count oldest [] = 0
 entry_count oldest (commit ∷ older) =
-    length (filter (λ object. nat_lt oldest (length (commit ∷ older)) || (newest_writer object older == 0)) commit.taken.writes)
+    length (filter (λ object. nat_lt oldest (length (commit ∷ older)) || (newest_writer object older == 0))
+    commit.taken.writes)
     + entry_count oldest older

@@ -54,7 +54,8 @@ pub record StandsFor (summaries : Summaries) (list : CommitList) : Type 0 where
   pub oldest_is : summaries.oldest ≡ list.oldest
   pub count_is : summaries.count ≡ length list.commits
   pub within : list.oldest ≤ length list.commits
-  pub newest_are : (object : Object) → newest_at object summaries.objects summaries.stamps ≡ newest_of object list.commits
+  pub newest_are : (object : Object)
+      → newest_at object summaries.objects summaries.stamps ≡ newest_of object list.commits
   pub recent_are : summaries.recent ≡ recent_of list.oldest list.commits
   pub kept_is : summaries.kept ≡ entry_count list.oldest list.commits
   pub sets : WriteSets list.commits

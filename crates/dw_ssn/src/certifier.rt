@@ -116,7 +116,8 @@ impl Certifier {
     /// violation names. Its snapshot is not before the oldest number. It takes no memory.
     pub fn watermarks(&self, taken: &Taken) -> Marks
         requires oldest { self.now.oldest ≤ taken.now.snapshot }
-        ensures low { (list : CommitList) → StandsFor self.now list → result.low ≡ low_watermark taken.now list.commits }
+        ensures low { (list : CommitList) → StandsFor self.now list
+            → result.low ≡ low_watermark taken.now list.commits }
         ensures high { (list : CommitList) → StandsFor self.now list
             → result.high ≡ high_watermark taken.now list.commits }
         ensures by { (list : CommitList) → StandsFor self.now list
@@ -134,8 +135,8 @@ impl Certifier {
         }
     }
 
-    /// Adds a transaction that is committed now, and gives its stamp. The oldest number stays. Where memory runs out, or
-    /// the stamps do, nothing is added.
+    /// Adds a transaction that is committed now, and gives its stamp. The oldest number stays. Where memory runs out,
+    /// or the stamps do, nothing is added.
     pub fn admit(&mut self, taken: Taken, marks: Marks) -> Result<u64, AllocError>
         requires set { IsAscendingObjects taken.writes }
         ensures stamp { (list : CommitList) → StandsFor self.old list
@@ -273,7 +274,8 @@ impl Certifier {
     /// What the objects that were read add to the watermarks.
     fn bounds_read(&self, taken: &Taken) -> Bounds
         requires { self.now.oldest ≤ taken.now.snapshot }
-        ensures low { (list : CommitList) → StandsFor self.now list → result.low ≡ low_watermark taken.now list.commits }
+        ensures low { (list : CommitList) → StandsFor self.now list
+            → result.low ≡ low_watermark taken.now list.commits }
         ensures high { (list : CommitList) → StandsFor self.now list → result.high
             ≡ high_over (record { snapshot = taken.now.snapshot; reads = taken.now.reads; writes = [] }) list.commits }
     {
@@ -348,7 +350,8 @@ struct Writer {
 
 /// The writer of the object before this commit, or 0.
 fn before_in(commit: &Recent, object: &Object) -> u64
-    ensures { (older : Items Certified) → IsAscendingObjects commit.now.writes → is_among object.now commit.now.writes ≡ true
+    ensures { (older : Items Certified) → IsAscendingObjects commit.now.writes
+        → is_among object.now commit.now.writes ≡ true
         → commit.now.before ≡ map (λ other. newest_writer other older) commit.now.writes
         → result ≡ newest_writer object.now older }
 {
