@@ -9,6 +9,7 @@ pub mod Powers
 pub mod Rescaling
 pub mod Ranges
 pub mod Rounding
+pub mod WrittenNumbers
 pub mod Years
 pub mod Months
 pub mod Calendar

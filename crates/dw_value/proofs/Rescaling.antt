@@ -109,3 +109,20 @@ same_by scale n false e = absurd (true≢false (sym (le-leb scale scale (omega a
 -- at its own scale a number stays as it is
 pub rescaled_same : (scale : ℕ) (n : ℤ) → rescaled scale scale n ≡ n
 rescaled_same scale n = same_by scale n (nat_le scale scale) refl
+
+within_small : (greatest : ℕ) (n : ℤ) → greatest < 170141183460469231731687303715884105727 → is_within greatest n ≡ true
+    → unsigned_abs n < 170141183460469231731687303715884105728
+within_small greatest n small e =
+    let low : int_le (negsuc greatest) n ≡ true = and_left (int_le (negsuc greatest) n) (int_le n (pos greatest)) e in
+    let high : int_le n (pos greatest) ≡ true = and_right (int_le (negsuc greatest) n) (int_le n (pos greatest)) e in
+    grind (arith, ints)
+
+-- the size of a number that a kind holds is below 2^127
+pub held_small : (kind : Kind) (n : ℤ) → holds_number kind n ≡ true → unsigned_abs n < 170141183460469231731687303715884105728
+held_small Small n e = within_small 32767 n (omega arith) e
+held_small Int n e = within_small 2147483647 n (omega arith) e
+held_small Big n e = within_small 9223372036854775807 n (omega arith) e
+held_small (Decimal precision scale) n e =
+    let few : 10 ^ min precision 38 ≤ 10 ^ 38 = ten_below (min precision 38) 38 (omega arith) in
+    omega (arith, ltb-true (unsigned_abs n) (10 ^ min precision 38) e, few, ten_38)
+held_small kind n e = absurd (true≢false (sym e))

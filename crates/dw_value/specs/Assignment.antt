@@ -17,8 +17,8 @@ abbrev pub day_or_misfit : Option ℤ → Result Value Misfit
 day_or_misfit None = Err Date
 day_or_misfit (Some day) = Ok (Day day)
 
--- A value of the kind `from` as a column of the kind `to` holds it, or why it can't: a number at the column's scale, and
--- a text beside a date as the day that it writes. 1.005 in DECIMAL(4,2) is 1.01, and -0.5 in INTEGER is -1.
+-- A value of the kind `from` as a column of the kind `to` holds it, or why it can't: a number at the column's scale,
+-- and a text beside a date as the day that it writes. 1.005 in DECIMAL(4,2) is 1.01, and -0.5 in INTEGER is -1.
 abbrev pub admitted : Kind → Value → Kind → Result Value Misfit
 admitted to (Number n) from = held to (Number (rescaled (scale_of from) (scale_of to) n))
 admitted kinds.Date (Words text) from = day_or_misfit (day_in text)

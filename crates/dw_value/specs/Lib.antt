@@ -6,5 +6,7 @@ pub mod Encodings
 pub mod Arithmetic
 pub mod Assignment
 pub mod Printed
+pub mod Written
+pub mod Sums
 pub mod ValueOrder
 pub mod Sorted

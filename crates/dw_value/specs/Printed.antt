@@ -29,8 +29,8 @@ places_text (suc places) n = codes "." ++ last_digits (suc places) n
 abbrev pub number_text : ℕ → ℤ → List ℕ
 number_text scale n = minus_text n ++ decimal (unsigned_abs n / 10 ^ scale) ++ places_text scale (unsigned_abs n)
 
--- the printed form of a value of a kind: a number at the kind's scale, a text as it is, a day as YYYY-MM-DD, t or f, and
--- no text for NULL
+-- the printed form of a value of a kind: a number at the kind's scale, a text as it is, a day as YYYY-MM-DD, t or f,
+-- and no text for NULL
 abbrev pub shown : Kind → Value → Field
 shown kind (Number n) = Shown (number_text (scale_of kind) n)
 shown kind (Words text) = Shown text

@@ -120,8 +120,8 @@ fn compute_number(
     }
 }
 
-/// The operation on two values of these kinds, whose result is of the kind that `result_kind` gives. With NULL on either
-/// side it is NULL; so it is for kinds that `result_kind` doesn't take, and for values that aren't numbers.
+/// The operation on two values of these kinds, whose result is of the kind that `result_kind` gives. With NULL on
+/// either side it is NULL; so it is for kinds that `result_kind` doesn't take, and for values that aren't numbers.
 ///
 /// `+`, `-` and `*` are exact, `/` goes toward zero, and `%` is what `/` leaves, with the sign of the dividend. `Range`
 /// comes exactly where a number is outside the result's kind: the result, or for `+` and `-` also one of the operands,

@@ -87,6 +87,15 @@ pub enum Misfit {
     Date,
 }
 
+/// Why a text gives no number of a kind.
+#[derive(Debug, Clone, Copy, PartialEq, Eq, Drop)]
+pub enum Misread {
+    /// The text doesn't have the form of a number of this kind.
+    Form,
+    /// The number is outside the range of the kind.
+    Range,
+}
+
 /// How the rows of a table are shared out, after the distribution styles of the Amazon Redshift guide.
 #[derive(Debug, Clone, Copy, PartialEq, Eq, Drop)]
 pub enum Style {
@@ -155,7 +164,8 @@ impl Kind {
     }
 
     /// How many bytes a number of the kind takes in a block: 2 for SMALLINT, 4 for INTEGER and DATE, 8 for BIGINT and a
-    /// DECIMAL of up to 18 digits, 16 for one of more, and 1 for BOOLEAN. Of a text it says nothing. It takes no memory.
+    /// DECIMAL of up to 18 digits, 16 for one of more, and 1 for BOOLEAN. Of a text it says nothing, and gives 1. It
+    /// takes no memory.
     pub fn width(self) -> u8
         ensures { result ≡ width self }
     {

@@ -642,3 +642,90 @@ fn rows_are_sorted_with_null_last(rt: HostRuntime) -> Result<(), Fail> {
     assert!(rt; row(rt.alloc(), 0, "x")? < row(rt.alloc(), 0, "y")?);
     Ok(())
 }
+
+#[test]
+fn numbers_are_read(rt: HostRuntime) -> Result<(), Fail> {
+    let mut long = String::from_str(rt.alloc(), "0.")?;
+    for _ in 0..300 {
+        long.push('4')?;
+    }
+    let (int, cents) = (Kind::Int, decimal(4, 2));
+    for (to, text, told) in [
+        (int, " -12 ", Ok(-12)),
+        (int, "+0012", Ok(12)),
+        (int, "2147483648", Err(Misread::Range)),
+        (int, "1.0", Err(Misread::Form)),
+        (int, "", Err(Misread::Form)),
+        (int, " ", Err(Misread::Form)),
+        (int, "-", Err(Misread::Form)),
+        (int, "1 2", Err(Misread::Form)),
+        (int, "--1", Err(Misread::Form)),
+        (int, "1\t", Err(Misread::Form)),
+        (int, "1e3", Err(Misread::Form)),
+        (cents, "1.005", Ok(101)),
+        (cents, " -1.005", Ok(-101)),
+        (cents, "1.0049999", Ok(100)),
+        (cents, "7", Ok(700)),
+        (cents, "-0.000", Ok(0)),
+        (cents, "99.994", Ok(9_999)),
+        (cents, "99.995", Err(Misread::Range)),
+        (cents, "1.", Err(Misread::Form)),
+        (cents, ".5", Err(Misread::Form)),
+        (cents, "1.2.3", Err(Misread::Form)),
+        (cents, "1.-2", Err(Misread::Form)),
+        (cents, long.as_str(), Ok(44)),
+        (
+            Kind::Decimal {
+                precision: 38,
+                scale: 37,
+            },
+            long.as_str(),
+            Ok((LONG - 1) / 9 * 4 / 10),
+        ),
+        (
+            decimal(38, 0),
+            "99999999999999999999999999999999999999.4",
+            Ok(LONG - 1),
+        ),
+        (
+            decimal(38, 0),
+            "-99999999999999999999999999999999999999.5",
+            Err(Misread::Range),
+        ),
+        (
+            decimal(38, 0),
+            "340282366920938463463374607431768211457",
+            Err(Misread::Range),
+        ),
+        (
+            decimal(38, 0),
+            "3402823669209384634633746074317682114560000000001",
+            Err(Misread::Range),
+        ),
+        (decimal(38, 37), "17.0", Err(Misread::Range)),
+        (Kind::Varchar { length: 9 }, "1", Err(Misread::Range)),
+    ] {
+        assert_eq!(rt; read_number(to, text.as_bytes()), told, "{text}");
+    }
+    Ok(())
+}
+
+#[test]
+fn sums_pass_128_bits_and_come_back(rt: HostRuntime) {
+    let mut sum = Sum::new();
+    assert_eq!(rt; sum.number(), Some(0));
+    sum.add(i128::MAX);
+    assert_eq!(rt; sum.number(), Some(i128::MAX));
+    sum.add(i128::MAX);
+    sum.add(5);
+    assert_eq!(rt; sum.number(), None);
+    sum.add(i128::MIN);
+    assert_eq!(rt; sum.number(), None);
+    sum.add(-7);
+    sum.add(i128::MIN);
+    assert_eq!(rt; sum.number(), Some(-4));
+    sum.add(i128::MIN);
+    assert_eq!(rt; sum.number(), None);
+    sum.add(4);
+    assert_eq!(rt; sum.number(), Some(i128::MIN));
+}
