@@ -109,8 +109,8 @@ fn read_texts(
 
 impl Block {
     /// The block of the values, which stand as a column of the kind holds them, on memory of `alloc`. The kind has at
-    /// most 38 digits or 65,535 bytes, and may have the encoding (see `dw_value::allows`); there are at most 4,096 values. A
-    /// zone's texts are copied on the allocators of the values.
+    /// most 38 digits or 65,535 bytes, and may have the encoding (see `dw_value::allows`); there are at most 4,096
+    /// values. A zone's texts are copied on the allocators of the values.
     pub fn make(
         alloc: Global,
         encoding: Encoding,
