@@ -1,10 +1,10 @@
 -- The bytes of a block. The encodings are those of the Amazon Redshift guide (compression encodings); the layout of
 -- their bytes is this project's own.
-use Rattle.std.specs.Prelude.{◌≡◌, ℕ, ◌≤◌, nat_le, nat_lt, ℤ, pos, Bool, true, false, not, ◌&&◌, Option, None, Some, Ok, List, ◌++◌, IsTrue, IsUtf8, if◌then◌else◌}
+use Rattle.std.specs.Prelude.{◌≡◌, ℕ, ◌≤◌, ℤ, pos, true, false, not, Option, None, Some, Ok, List, ◌++◌, IsTrue, IsUtf8, if◌then◌else◌}
 use Rattle.std.specs.List.{filter_map}
 use Rattle.std.specs.Ordering.{int_eq}
 use Rattle.dw_value.specs.declared.kinds.Kind.{Kind}
-use Rattle.dw_value.specs.declared.kinds.Kind.TheVariants.{Small, Int, Big, Decimal, Char, Varchar, Date, Bool as Boolean}
+use Rattle.dw_value.specs.declared.kinds.Kind.TheVariants.{Decimal, Char, Varchar, Date, Bool as Boolean}
 use Rattle.dw_value.specs.declared.kinds.Encoding.{Encoding}
 use Rattle.dw_value.specs.declared.kinds.Encoding.TheVariants.{Raw, Bytedict, Delta, Delta32k, Mostly8, Mostly16, Mostly32, Runlength}
 use Rattle.dw_value.specs.declared.values.Value.{Value}
