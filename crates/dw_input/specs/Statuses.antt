@@ -2,7 +2,7 @@
 use Rattle.std.specs.Prelude.{◌≡◌, Option, Some, None, Result}
 use Rattle.std.specs.Prelude.{Err as Refused}
 use Rattle.dw_script.specs.declared.status.Status.{Status}
-use Rattle.dw_script.specs.declared.status.Status.TheVariants.{Ok, Usage, ReadFault, WriteFault, BadScript, BadSchedule, BadJournal, Memory}
+use Rattle.dw_script.specs.declared.status.Status.TheVariants.{Ok, Usage, ReadFault, WriteFault, BadScript, BadSchedule, BadJournal, NotLegal, NotFollows, WrongEnd, Memory}
 
 -- whether the second may be answered where the first is due: what is due, or want of memory, or a fault; a fault of
 -- writing only where a program was to write
@@ -30,6 +30,9 @@ abbrev pub ComesOfBytes : Status → Type 0
 ComesOfBytes (BadScript name cause) = Unit {0}
 ComesOfBytes (BadSchedule line) = Unit {0}
 ComesOfBytes (BadJournal line) = Unit {0}
+ComesOfBytes (NotLegal event) = Unit {0}
+ComesOfBytes (NotFollows event) = Unit {0}
+ComesOfBytes (WrongEnd line) = Unit {0}
 ComesOfBytes Memory = Unit {0}
 ComesOfBytes status = ⊥
 
