@@ -1,5 +1,5 @@
 -- An event is due exactly where the test says so.
-use Rattle.std.proofs.Common.{◌≡◌, ℕ, zero, suc, Bool, true, false, List, refl, sym, ap, subst, ◌∙◌}
+use Rattle.std.proofs.Common.{◌≡◌, ℕ, true, false, List, refl, sym, subst}
 use Rattle.std.specs.Prelude.{Option, Some, None, is_some, nat_eq, ◌&&◌}
 use Rattle.std.proofs.lemmas.Bool.{eqb-true, eq-eqb, and_parts, and_from, false≢true}
 use Rattle.dw_model.specs.declared.answers.Word.{Word}
@@ -8,12 +8,12 @@ use Rattle.dw_model.specs.Binding.{same_name}
 use Rattle.dw_journal.specs.declared.BlockState.{BlockState}
 use Rattle.dw_journal.specs.declared.BlockState.TheVariants.{Outside, Within, Aborted}
 use Rattle.dw_journal.specs.declared.Event.{Event}
-use Rattle.dw_journal.specs.declared.Event.TheVariants.{Begin, Pass, Wait, Opened, Answer, Commit, Violation, Refuse, Rollback, VacuumBegin, VacuumSlice, VacuumEnd, Refresh, End}
+use Rattle.dw_journal.specs.declared.Event.TheVariants.{Begin, Pass, Wait, Opened, Answer, Commit, Violation, Refuse, Rollback, VacuumBegin, VacuumSlice, VacuumEnd, End}
 use Rattle.dw_journal.specs.History.{session_of}
 use Rattle.dw_journal.specs.Transactions.{Transaction}
 use Rattle.dw_journal.specs.Turns.{Call, IsForeign, Begins, Commits, RollsBack, Sweeps, Works, Turn, Nothing, AnswerOf, CommitOf, SliceOf, SweepEndOf, Taking, AtEnd, Idle}
 use Rattle.dw_journal.specs.Follows.{IsAnswer, is_answer, is_answer_refused, IsDecision, is_commit, is_violation, is_commit_refused, IsOpening, is_wait, is_opening_refused, is_opened, IsSweepOpening, is_sweep_wait, is_sweep_refused, is_sweep_begin, IsTaken, foreign, begin_outside, begin_within, begin_aborted, commit_outside, commit_of_nothing, commit_within, commit_aborted, rollback_outside, rollback_within, rollback_aborted, vacuum_outside, vacuum_within, vacuum_aborted, work_outside, work_within, work_aborted, IsDue, answers, decides, rebuilds, has_rebuilt, takes, ends, sweeps}
-use Rattle.dw_judge.specs.Dues.{is_answer_of, is_begin_of, is_begin_taken, is_commit_taken, is_decision_of, is_decision_or_pass, is_due_at, is_end_of_script, is_idle_sweep, is_opening_of, is_pass_of, is_refusal_of, is_rollback_of, is_rollback_taken, is_slice_of, is_sweep_end_of, is_sweep_opening_of, is_sweep_taken, is_taken_of, is_work_taken, same_word, word_number}
+use Rattle.dw_judge.specs.Dues.{is_answer_of, is_begin_of, is_decision_of, is_due_at, is_end_of_script, is_idle_sweep, is_opening_of, is_pass_of, is_refusal_of, is_rollback_of, is_slice_of, is_sweep_end_of, is_sweep_opening_of, is_taken_of, same_word, word_number}
 use Rattle.dw_judge.proofs.Same.{same_name-true, same_name-self, word_one}
 
 -- ---- what is due passes the test

@@ -1,29 +1,27 @@
 -- A journal's events one by one: what is right up to a place, and the first place where something isn't.
-use Rattle.std.proofs.Common.{inl, inr, ◌≡◌, ◌≢◌, ℕ, zero, suc, ◌+◌, ◌-◌, ◌<◌, ◌≤◌, Bool, true, false, List, [], ◌∷◌, ◌++◌, length, get_or, replicate, reverse, take, refl, sym, ap, subst, ◌∙◌, arith}
-use Rattle.std.specs.Prelude.{Option, Some, None, slice_get, option_and_then, unwrap_or, ◌⊎◌}
+use Rattle.std.proofs.Common.{◌≡◌, ℕ, zero, suc, ◌+◌, ◌-◌, ◌<◌, ◌≤◌, true, false, List, [], ◌∷◌, length, get_or, replicate, reverse, take, refl, sym, ap, subst, ◌∙◌, arith}
+use Rattle.std.specs.Prelude.{Option, Some, None, slice_get, unwrap_or}
 use Rattle.std.specs.FinMap as map_of
 use Rattle.std.specs.List.{filter_map, range_with_len}
 use Rattle.std.proofs.Math.Seq.{take-length}
-use Rattle.std.proofs.lemmas.Bool.{false≢true}
 use Rattle.std.proofs.lemmas.List.{length-replicate, reverse-append, take_more}
 use Rattle.std.proofs.lemmas.Option.{get_or_from_slice_get, slice_get_within}
-use Rattle.dw_model.specs.Databases.{Tables}
 use Rattle.dw_journal.specs.declared.BlockState.TheVariants as blocks
 use Rattle.dw_journal.specs.declared.Event.{Event}
 use Rattle.dw_journal.specs.declared.Journal.{Journal}
 use Rattle.dw_journal.specs.declared.World.{World}
-use Rattle.dw_journal.specs.Worlds.{IsSession, session_count}
+use Rattle.dw_journal.specs.Worlds.{session_count}
 use Rattle.dw_journal.specs.History.{History, events_of, has_ended, history_of, is_end, with_event}
-use Rattle.dw_journal.specs.Transactions.{horizon, least_of, open_snapshots, snapshot_of}
+use Rattle.dw_journal.specs.Transactions.{least_of, snapshot_of}
 use Rattle.dw_journal.specs.Contents.{contents}
 use Rattle.dw_journal.specs.Follows.{EachFollows, Follows, FollowsAfter}
 use Rattle.dw_journal.specs.Legal.{EachIsLegal, IsLegal, IsLegalAfter}
 use Rattle.dw_judge.specs.declared.sessions.Session.{Session}
 use Rattle.dw_judge.specs.declared.summaries.Summary.{Summary}
 use Rattle.dw_judge.specs.Readings.{newest_kept}
-use Rattle.dw_judge.specs.Summaries.{AreHorizons, IsKept, StandsFor}
+use Rattle.dw_judge.specs.Summaries.{IsKept, StandsFor}
 use Rattle.dw_judge.proofs.Happening.{at_place}
-use Rattle.dw_judge.specs.Verdicts.{AreRight, HasItsSessions, IsIllegal, IsUndue, IsWanting, history_before}
+use Rattle.dw_judge.specs.Verdicts.{AreRight, HasItsSessions, IsWanting, history_before}
 
 -- one more event
 pub reverse_next : (events : List Event) (place : ℕ) (event : Event) → slice_get events place ≡ Some event

@@ -1,11 +1,10 @@
 -- The summary stands for the history once more, after one more event.
-use Rattle.std.proofs.Common.{◌≡◌, ◌≢◌, ℕ, zero, suc, ◌+◌, ◌<◌, ◌≤◌, Bool, true, false, List, [], ◌∷◌, length, drop, inl, inr, refl, sym, ap, subst, ◌∙◌, arith}
+use Rattle.std.proofs.Common.{◌≡◌, ◌≢◌, ℕ, zero, suc, ◌+◌, ◌<◌, Bool, true, false, List, [], ◌∷◌, length, drop, inl, inr, refl, sym, ap, subst, ◌∙◌, arith}
 use Rattle.std.specs.Prelude.{Option, Some, None, is_some, ◌⊎◌, option_map, slice_get, reverse, unwrap_or, ◌==◌}
 use Rattle.std.specs.List.{cons_option, filter_map, range_with_len}
 use Rattle.std.proofs.Math.ListN.{set}
 use Rattle.std.proofs.lemmas.Bool.{eqb-true, eq-eqb}
 use Rattle.std.proofs.lemmas.List.{length-map, length-set, length-reverse}
-use Rattle.std.proofs.lemmas.Option.{slice_get_within}
 use Rattle.dw_model.specs.Databases.{Tables}
 use Rattle.dw_journal.specs.declared.Certified.{Certified}
 use Rattle.dw_journal.specs.declared.Event.{Event}
@@ -14,8 +13,7 @@ use Rattle.dw_journal.specs.declared.Taken.{Taken}
 use Rattle.dw_journal.specs.Worlds.{session_count}
 use Rattle.dw_journal.specs.History.{History, session_of, is_of, statements_after, with_event}
 use Rattle.dw_journal.specs.Blocks.{block_after}
-use Rattle.dw_journal.specs.Transactions.{Transaction, transaction_of, opened_statements, commits, horizon, least_of, open_snapshots, snapshot_in, snapshot_of, statements_in}
-use Rattle.dw_journal.specs.Contents.{contents_at}
+use Rattle.dw_journal.specs.Transactions.{Transaction, transaction_of, commits, horizon, least_of, open_snapshots, snapshot_in, snapshot_of, statements_in}
 use Rattle.dw_journal.specs.Vacuums.{swept_after, swept_by}
 use Rattle.dw_journal.specs.Legal.{certified}
 use Rattle.dw_journal.proofs.Stand.{commits-event, contents-event}

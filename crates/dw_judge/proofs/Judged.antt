@@ -1,5 +1,5 @@
 -- What is kept decides whether events are legal.
-use Rattle.std.proofs.Common.{◌≡◌, ℕ, zero, suc, ◌+◌, ◌<◌, ◌≤◌, Bool, true, false, List, [], ◌∷◌, ◌++◌, length, get_or, drop, refl, sym, ap, subst, ◌∙◌, arith}
+use Rattle.std.proofs.Common.{◌≡◌, ℕ, suc, ◌+◌, ◌<◌, ◌≤◌, Bool, true, false, List, [], ◌∷◌, ◌++◌, length, get_or, refl, sym, ap, subst, ◌∙◌, arith}
 use Rattle.std.specs.Prelude.{Option, Some, None, ◌&&◌, is_some, nat_eq, nat_le, nat_lt, not, ◌==◌, option_map, slice_get, reverse, flat_map}
 use Rattle.std.specs.Bool.{Decides}
 use Rattle.std.specs.FinMap as map_of
@@ -7,7 +7,6 @@ use Rattle.std.specs.List.{filter, find, list_any, position, position_from, rang
 use Rattle.std.specs.Option.{option_map_or}
 use Rattle.std.proofs.lemmas.Bool.{eqb-true, eq-eqb, ltb-true, lt-ltb, leb-true, le-leb, and_parts, and_from, false≢true}
 use Rattle.std.proofs.lemmas.Iterator.Adapters.{position_from-zero}
-use Rattle.std.proofs.lemmas.List.{length-map, length-reverse}
 use Rattle.std.proofs.lemmas.Option.{slice_get_read}
 use Rattle.dw_model.specs.declared.objects.Object.{Object}
 use Rattle.dw_model.specs.declared.objects.Object.TheVariants.{Def, Rows}
@@ -25,12 +24,12 @@ use Rattle.dw_journal.specs.declared.locks.Mode.TheVariants.{AccessShare}
 use Rattle.dw_journal.specs.declared.locks.Want.{Want}
 use Rattle.dw_journal.specs.Worlds.{session_count, statement_at}
 use Rattle.dw_journal.specs.History.{History}
-use Rattle.dw_journal.specs.Transactions.{Transaction, transaction_of, opened_statements, taken_over, taken_of, snapshot_in, commits, horizon}
+use Rattle.dw_journal.specs.Transactions.{Transaction, transaction_of, opened_statements, taken_over, taken_of, snapshot_in, commits}
 use Rattle.dw_journal.specs.Contents.{contents}
 use Rattle.dw_journal.specs.Vacuums.{swept_by, sweeper}
-use Rattle.dw_journal.specs.Locks.{LockState, lock_state, blockers, conflict, has_conflict, held_locks, stands_in_way, sweep_lock, sweep_locks, wants_in, wants_of}
+use Rattle.dw_journal.specs.Locks.{lock_state, blockers, conflict, has_conflict, held_locks, stands_in_way, sweep_lock, sweep_locks, wants_in, wants_of}
 use Rattle.dw_journal.specs.Watermarks.{low_watermark, high_watermark, violated_object}
-use Rattle.dw_journal.specs.Legal.{IsLegalCommit, IsLegalRefresh, IsLegalSlice, IsLegalSweep, IsLegalViolation, absent_refusal, certified, high_by, high_of, low_by, low_of, object_by, object_of, table_refusal}
+use Rattle.dw_journal.specs.Legal.{IsLegalCommit, IsLegalRefresh, IsLegalSlice, IsLegalSweep, IsLegalViolation, absent_refusal, certified, high_by, high_of, low_by, low_of, object_by, object_of}
 use Rattle.dw_judge.specs.declared.sessions.OpenOne.{OpenOne}
 use Rattle.dw_judge.specs.declared.sessions.Session.{Session}
 use Rattle.dw_judge.specs.declared.summaries.Summary.{Summary}

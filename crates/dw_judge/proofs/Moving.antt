@@ -1,12 +1,11 @@
 -- The summary is ready for an event, where its session's transaction is taken out.
-use Rattle.std.proofs.Common.{◌≡◌, ◌≢◌, ℕ, zero, suc, ◌<◌, ◌≤◌, Bool, true, false, List, [], ◌∷◌, ◌++◌, length, inl, inr, refl, sym, ap, subst, ◌∙◌, arith}
+use Rattle.std.proofs.Common.{◌≡◌, ◌≢◌, ℕ, suc, Bool, true, false, List, ◌∷◌, length, inl, inr, refl, sym, ap, subst, ◌∙◌, arith}
 use Rattle.std.specs.Prelude.{Option, Some, None, slice_get, reverse, if◌then◌else◌}
 use Rattle.std.proofs.Math.ListN.{set}
 use Rattle.std.proofs.lemmas.List.{length-set}
 use Rattle.dw_model.specs.Databases.{Tables}
-use Rattle.dw_journal.specs.declared.Certified.{Certified}
 use Rattle.dw_journal.specs.declared.Event.{Event}
-use Rattle.dw_journal.specs.declared.Event.TheVariants.{Begin, Pass, Wait, Opened, Answer, Commit, Violation, Refuse, Rollback, VacuumBegin, VacuumSlice, VacuumEnd, Refresh, End}
+use Rattle.dw_journal.specs.declared.Event.TheVariants.{Begin, Pass, Wait, Violation, Refuse, Rollback, VacuumBegin, VacuumSlice, VacuumEnd, End}
 use Rattle.dw_journal.specs.Worlds.{session_count}
 use Rattle.dw_journal.specs.History.{History, session_of, is_of, with_event}
 use Rattle.dw_journal.specs.Transactions.{Transaction, transaction_of, opened_statements, statements_in}

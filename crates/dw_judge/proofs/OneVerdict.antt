@@ -1,19 +1,16 @@
 -- A journal has one verdict.
-use Rattle.std.proofs.Common.{inl, inr, ◌≡◌, ℕ, ◌+◌, ◌<◌, ◌≤◌, true, false, length, refl, sym, ap, subst, ◌∙◌, arith}
+use Rattle.std.proofs.Common.{inl, inr, ◌≡◌, ℕ, ◌<◌, ◌≤◌, length, refl, sym, ap, subst, ◌∙◌, arith}
 use Rattle.std.specs.Prelude.{Some, slice_get}
 use Rattle.std.proofs.lemmas.Bool.{cases_lt, false≢true}
 use Rattle.std.proofs.lemmas.Option.{slice_get_within}
-use Rattle.dw_model.specs.Databases.{Tables}
 use Rattle.dw_journal.specs.declared.Event.{Event}
 use Rattle.dw_journal.specs.declared.Journal.{Journal}
 use Rattle.dw_journal.specs.declared.World.{World}
-use Rattle.dw_journal.specs.History.{history_of}
-use Rattle.dw_journal.specs.Contents.{contents}
 use Rattle.dw_journal.specs.Follows.{Follows, FollowsAfter}
 use Rattle.dw_journal.specs.Legal.{IsLegal, IsLegalAfter}
 use Rattle.dw_judge.specs.declared.verdicts.Verdict.{Verdict}
 use Rattle.dw_judge.specs.declared.verdicts.Verdict.TheVariants.{Passes, NotLegal, NotFollows}
-use Rattle.dw_judge.specs.Verdicts.{AreRight, DoesNotFollow, IsIllegal, IsNotLegal, IsUndue, IsVerdict, IsWanting, history_before, other_sessions, undue, wanting}
+use Rattle.dw_judge.specs.Verdicts.{AreRight, DoesNotFollow, IsIllegal, IsNotLegal, IsUndue, IsVerdict, history_before, other_sessions, undue, wanting}
 use Rattle.dw_judge.proofs.FirstFaults.{all_right, right_below}
 
 module _ (world : World) (journal : Journal) where

@@ -1,6 +1,6 @@
 -- What is kept tells what a session sees, and where a statement is worked on.
-use Rattle.std.proofs.Common.{◌≡◌, ℕ, zero, suc, ◌+◌, ◌-◌, ◌<◌, ◌≤◌, Bool, true, false, List, [], ◌∷◌, cond, length, drop, not, refl, sym, ap, subst, ◌∙◌, arith}
-use Rattle.std.specs.Prelude.{Option, Some, None, ◌&&◌, nat_eq, nat_le, nat_lt, option_map, slice_get, unwrap_or, reverse, is_some, if◌then◌else◌}
+use Rattle.std.proofs.Common.{◌≡◌, ℕ, zero, suc, ◌+◌, ◌-◌, ◌<◌, ◌≤◌, Bool, true, false, List, [], ◌∷◌, cond, length, drop, not, refl, sym, ap, ◌∙◌, arith}
+use Rattle.std.specs.Prelude.{Option, Some, None, ◌&&◌, nat_eq, nat_le, nat_lt, option_map, slice_get, unwrap_or, is_some, if◌then◌else◌}
 use Rattle.std.specs.Bool.{Decides}
 use Rattle.std.specs.List.{count_by, find, fold, range_with_len}
 use Rattle.std.proofs.lemmas.Bool.{false≢true}
@@ -15,7 +15,7 @@ use Rattle.dw_journal.specs.declared.Route.TheVariants.{Main, Cluster}
 use Rattle.dw_journal.specs.declared.Taken.{Taken}
 use Rattle.dw_journal.specs.Worlds.{session_count}
 use Rattle.dw_journal.specs.History.{History, newest_event}
-use Rattle.dw_journal.specs.Transactions.{Transaction, transaction_of, opened_statements, taken_of, taken_over, snapshot_in, written_in, commits}
+use Rattle.dw_journal.specs.Transactions.{Transaction, transaction_of, written_in, commits}
 use Rattle.dw_journal.specs.Contents.{contents, view, view_in}
 use Rattle.dw_journal.specs.Routes.{can_take, cluster_or_main, has_written_none, is_open_on, is_select, may_leave, open_on, refreshed, route_of, shows}
 use Rattle.dw_journal.specs.Legal.{IsLegalOpened, snapshot_due, snapshot_in_or}
@@ -24,7 +24,7 @@ use Rattle.dw_judge.specs.declared.sessions.Session.{Session}
 use Rattle.dw_judge.specs.declared.summaries.Summary.{Summary}
 use Rattle.dw_judge.specs.Judging.{leaves_kept, route_kept, seen_in, snapshot_due_in, takes_kept, written_none_in}
 use Rattle.dw_judge.specs.Readings.{is_kept_open_on}
-use Rattle.dw_judge.specs.Summaries.{HasOpen, IsKept, StandsFor, stamp_kept}
+use Rattle.dw_judge.specs.Summaries.{HasOpen, IsKept, StandsFor}
 use Rattle.dw_judge.proofs.Happening.{commits_certified}
 use Rattle.dw_judge.proofs.Judged.{refuted, statement_unblocked, taken_is}
 

@@ -1,8 +1,7 @@
 -- The summary is ready for an opening, an answer and a commit.
-use Rattle.std.proofs.Common.{◌≡◌, ℕ, ◌+◌, ◌≤◌, Bool, true, List, [], ◌∷◌, ◌++◌, length, reverse, refl, sym, ap, subst, ◌∙◌, arith}
-use Rattle.std.specs.Prelude.{Option, Some, None, slice_get, option_map}
-use Rattle.std.proofs.Math.ListN.{set}
-use Rattle.std.proofs.lemmas.List.{length-map, reverse-append}
+use Rattle.std.proofs.Common.{◌≡◌, ℕ, true, List, [], ◌∷◌, ◌++◌, reverse, refl, sym, ap, subst, ◌∙◌, arith}
+use Rattle.std.specs.Prelude.{Option, Some, None}
+use Rattle.std.proofs.lemmas.List.{reverse-append}
 use Rattle.dw_model.specs.declared.answers.Answer.{Answer as Reply}
 use Rattle.dw_model.specs.declared.objects.Object.{Object}
 use Rattle.dw_model.specs.declared.statements.Statement.{Statement}
@@ -15,19 +14,18 @@ use Rattle.dw_journal.specs.declared.Route.{Route}
 use Rattle.dw_journal.specs.declared.Taken.{Taken}
 use Rattle.dw_journal.specs.Worlds.{statement_at}
 use Rattle.dw_journal.specs.History.{History, is_of, with_event}
-use Rattle.dw_journal.specs.Transactions.{Transaction, answered_in, committed, commits, objects_by, objects_over, opened_in, opened_statements, statements_in, taken_over, transaction_of}
-use Rattle.dw_journal.specs.Contents.{contents, contents_at, effect_of, after_commit}
-use Rattle.dw_journal.specs.Legal.{IsLegalAnswer, certified, snapshot_due, snapshot_in_or}
-use Rattle.dw_journal.proofs.Stand.{commits-event, contents-event, state_newest}
+use Rattle.dw_journal.specs.Transactions.{Transaction, answered_in, committed, commits, objects_by, objects_over, opened_in, opened_statements, taken_over, transaction_of}
+use Rattle.dw_journal.specs.Contents.{contents, contents_at, after_commit}
+use Rattle.dw_journal.specs.Legal.{certified, snapshot_due, snapshot_in_or}
+use Rattle.dw_journal.proofs.Stand.{state_newest}
 use Rattle.dw_journal.proofs.TakenObjects.{objects_over-ascending}
-use Rattle.dw_commit.specs.declared.views.View.{View}
 use Rattle.dw_commit.specs.Views.{IsViewOf}
 use Rattle.dw_commit.proofs.ViewLemmas.{statements_in-answered, IsViewOf-answered}
 use Rattle.dw_judge.specs.declared.sessions.OpenOne.{OpenOne}
 use Rattle.dw_judge.specs.declared.sessions.Session.{Session}
 use Rattle.dw_judge.specs.AnswersJudged.{IsAnsweredBy, IsAnswered}
 use Rattle.dw_judge.specs.Changes.{begun_in, widened_by}
-use Rattle.dw_judge.specs.Summaries.{HasOpen, IsKept, IsOpen}
+use Rattle.dw_judge.specs.Summaries.{HasOpen, IsKept}
 use Rattle.dw_judge.proofs.Happening.{own_event}
 
 abbrev taken_of_parts : ℕ → List Object → List Object → Taken

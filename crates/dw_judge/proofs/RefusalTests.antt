@@ -1,5 +1,5 @@
 -- A refusal is legal exactly where the tests say so.
-use Rattle.std.proofs.Common.{◌≡◌, ℕ, ◌<◌, Bool, true, false, List, [], refl, sym, ap, subst, ◌∙◌, inl, inr}
+use Rattle.std.proofs.Common.{◌≡◌, ℕ, ◌<◌, Bool, false, List, [], refl, sym, ap, subst, ◌∙◌, inl, inr}
 use Rattle.std.specs.Prelude.{Option, Some, None, Result, Ok, Err, IfOk, ◌⊎◌, option_map, reverse}
 use Rattle.std.specs.List.{position}
 use Rattle.std.specs.Bool.{Decides}
@@ -7,7 +7,7 @@ use Rattle.std.specs.Option.{option_map_or}
 use Rattle.std.proofs.lemmas.Bool.{false≢true}
 use Rattle.dw_model.specs.declared.answers.Answer.{Answer as Reply}
 use Rattle.dw_model.specs.declared.answers.Plain.{Plain}
-use Rattle.dw_model.specs.declared.answers.Plain.TheVariants.{Done, Refused as PlainRefused}
+use Rattle.dw_model.specs.declared.answers.Plain.TheVariants.{Done}
 use Rattle.dw_model.specs.declared.refusals.Refusal.{Refusal}
 use Rattle.dw_model.specs.declared.refusals.Refusal.TheVariants.{Memory}
 use Rattle.dw_model.specs.declared.statements.Statement.{Statement}
@@ -28,7 +28,7 @@ use Rattle.dw_journal.specs.Blocks.{block_of}
 use Rattle.dw_journal.specs.Contents.{contents, view}
 use Rattle.dw_journal.specs.Transactions.{taken_of}
 use Rattle.dw_journal.specs.Vacuums.{sweeper}
-use Rattle.dw_journal.specs.Turns.{Call, IsForeign, Begins, Commits, RollsBack, Sweeps, Works, Turn, Taking, AtEnd, call_of, taking, turn_after, turn_of}
+use Rattle.dw_journal.specs.Turns.{Call, IsForeign, Begins, Commits, RollsBack, Sweeps, Works, Turn, call_of, taking, turn_after, turn_of}
 use Rattle.dw_journal.specs.Legal.{IsCommitRefusal, IsRefusal, IsTakingRefusal, IsWorkRefusal, blockers_of, certified, cycle_of, high_by, lock_refusal, low_by, opening_refusal, sweep_refusal, table_refusal, unless_blocked, work_refusal}
 use Rattle.dw_commit.specs.declared.views.View.{View}
 use Rattle.dw_commit.specs.declared.work.Replied.{Replied}

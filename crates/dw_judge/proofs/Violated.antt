@@ -1,19 +1,17 @@
 -- The object that a violation names.
-use Rattle.std.proofs.Common.{inl, inr, ◌≡◌, ℕ, ◌+◌, ◌<◌, ◌≤◌, min, List, [], ◌∷◌, ◌++◌, length, get_or, take, reverse, refl, sym, ap, subst, ◌∙◌, arith, Bool, true, false, cond}
-use Rattle.std.specs.Prelude.{◌&&◌, ◌||◌, ◌==◌, nat_lt, if◌then◌else◌, Option, Some, None, slice_get, option_and_then, is_some, IfSome}
-use Rattle.std.specs.List.{filter, fold, list_any}
+use Rattle.std.proofs.Common.{◌≡◌, ℕ, ◌+◌, ◌<◌, ◌≤◌, List, [], ◌∷◌, ◌++◌, length, get_or, take, reverse, refl, sym, ap, ◌∙◌, arith, Bool, true, false}
+use Rattle.std.specs.Prelude.{if◌then◌else◌, Option, Some, None, slice_get, option_and_then, IfSome}
+use Rattle.std.specs.List.{filter, fold}
 use Rattle.std.specs.Option.{option_map_or}
-use Rattle.std.proofs.lemmas.Bool.{and_parts, and_from, or_cases, or_left, or_right, cases_lt, eq-eqb, false≢true}
+use Rattle.std.proofs.lemmas.Bool.{false≢true}
 use Rattle.std.proofs.lemmas.Bool.Decides.{nat_tests}
 use Rattle.std.proofs.lemmas.List.Elements.{filter_more}
 use Rattle.std.proofs.lemmas.List.{append-nil}
 use Rattle.std.proofs.lemmas.Option.{slice_get_read}
 use Rattle.dw_model.specs.declared.objects.Object.{Object}
-use Rattle.dw_model.specs.Objects.{same_object, is_among, object_before}
-use Rattle.dw_model.proofs.ObjectSets.{same_object-back}
+use Rattle.dw_model.specs.Objects.{object_before}
 use Rattle.dw_journal.specs.declared.Certified.{Certified}
-use Rattle.dw_journal.specs.declared.Taken.{Taken}
-use Rattle.dw_journal.specs.Watermarks.{counts_for_low, low_over, low_watermark, violated_object, overlaps, lesser, least_object, written_at_low}
+use Rattle.dw_journal.specs.Watermarks.{lesser, least_object, written_at_low}
 use Rattle.dw_judge.proofs.Rest.{length_left}
 
 -- no commit that the snapshot sees counts

@@ -1,5 +1,5 @@
 -- Which event is due, as a test: the turn of a session as it is kept, and whether an event is one that comes of it.
-use Rattle.std.specs.Prelude.{ℕ, zero, suc, ◌+◌, Bool, true, false, ◌==◌, ◌&&◌, nat_eq, List, Option, Some, None}
+use Rattle.std.specs.Prelude.{ℕ, zero, suc, ◌+◌, Bool, true, false, ◌&&◌, nat_eq, List}
 use Rattle.dw_model.specs.declared.answers.Word.{Word}
 use Rattle.dw_model.specs.declared.answers.Word.TheVariants as words
 use Rattle.dw_model.specs.Binding.{same_name}

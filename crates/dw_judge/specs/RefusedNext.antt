@@ -8,7 +8,7 @@ use Rattle.dw_journal.specs.declared.BlockState.{BlockState}
 use Rattle.dw_journal.specs.declared.BlockState.TheVariants.{Outside, Within, Aborted}
 use Rattle.dw_journal.specs.declared.Certified.{Certified}
 use Rattle.dw_journal.specs.declared.Given.{Given}
-use Rattle.dw_journal.specs.Turns.{Call, IsForeign, Begins, Commits, RollsBack, Sweeps, Works, call_of}
+use Rattle.dw_journal.specs.Turns.{Call, IsForeign, Commits, Sweeps, Works, call_of}
 use Rattle.dw_journal.specs.Legal.{high_by, low_by, sweep_refusal, table_refusal}
 use Rattle.dw_commit.specs.declared.work.Replied.{Replied}
 use Rattle.dw_commit.specs.declared.work.Replied.TheVariants.{Answered, Refused}

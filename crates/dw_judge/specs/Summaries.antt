@@ -1,14 +1,11 @@
 -- What is kept of the events so far, and that it stands for their history.
-use Rattle.std.specs.Prelude.{◌≡◌, ℕ, suc, ◌≤◌, Bool, true, false, List, [], length, reverse, slice_get, Option, Some, None, is_some, option_and_then, option_map, unwrap_or}
-use Rattle.std.specs.List.{filter_map}
-use Rattle.dw_model.specs.Databases.{Tables}
-use Rattle.dw_journal.specs.declared.Certified.{Certified}
+use Rattle.std.specs.Prelude.{◌≡◌, ℕ, suc, ◌≤◌, Bool, true, false, List, [], length, reverse, slice_get, Option, Some, None, is_some, option_and_then, unwrap_or}
 use Rattle.dw_journal.specs.declared.Event.{Event}
 use Rattle.dw_journal.specs.declared.Event.TheVariants.{VacuumBegin, VacuumEnd}
 use Rattle.dw_journal.specs.Worlds.{session_count}
 use Rattle.dw_journal.specs.History.{History, newest_event, statements_taken, up_to_newest}
 use Rattle.dw_journal.specs.Blocks.{block_of}
-use Rattle.dw_journal.specs.Transactions.{Transaction, transaction_of, opened_statements, taken_over, statements_in, commits, horizon, least_of}
+use Rattle.dw_journal.specs.Transactions.{Transaction, transaction_of, opened_statements, taken_over, statements_in, commits, horizon}
 use Rattle.dw_journal.specs.Contents.{contents, contents_at}
 use Rattle.dw_journal.specs.Vacuums.{swept_by}
 use Rattle.dw_journal.specs.Routes.{refreshed}

@@ -1,4 +1,4 @@
-use Rattle.std.proofs.Common.{◌≡◌, ◌≤◌, ◌<◌, length, refl, sym, ◌∙◌, arith}
+use Rattle.std.proofs.Common.{◌≤◌, ◌<◌, length, refl, sym, ◌∙◌, arith}
 use Rattle.dw_journal.specs.History.{History}
 use Rattle.dw_journal.specs.Worlds.{session_count}
 use Rattle.dw_judge.specs.Verdicts.{history_before}

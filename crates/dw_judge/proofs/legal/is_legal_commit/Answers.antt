@@ -1,4 +1,4 @@
-use Rattle.std.proofs.Common.{◌≡◌, ◌<◌, ℕ, List, length, refl, ap, ◌∙◌, arith}
+use Rattle.std.proofs.Common.{◌≡◌, ◌<◌, List, length, refl, ap, ◌∙◌, arith}
 use Rattle.std.specs.Prelude.{reverse, Some, None}
 use Rattle.dw_journal.specs.declared.Certified.{Certified}
 use Rattle.dw_journal.specs.History.{History}

@@ -1,5 +1,5 @@
-use Rattle.std.proofs.Common.{◌≡◌, ◌<◌, length, drop, List, refl, sym, ap, subst, ◌∙◌, arith, not, false}
-use Rattle.std.specs.Prelude.{Option, Some, is_some}
+use Rattle.std.proofs.Common.{◌≡◌, ◌<◌, length, refl, ap, subst, ◌∙◌, arith, not, false}
+use Rattle.std.specs.Prelude.{Option, is_some}
 use Rattle.std.specs.Bool.{Decides}
 use Rattle.dw_model.specs.declared.statements.Statement.{Statement}
 use Rattle.dw_model.specs.Binding.{bound_refusal}

@@ -1,4 +1,4 @@
-use Rattle.std.proofs.Common.{◌≡◌, ◌<◌, length, refl, sym, ap, ◌∙◌, arith}
+use Rattle.std.proofs.Common.{◌<◌, length, refl, ap, ◌∙◌, arith}
 use Rattle.dw_journal.specs.History.{History, session_of}
 use Rattle.dw_judge.specs.Verdicts.{history_before}
 use Rattle.dw_judge.proofs.Happening.{at_place}

@@ -1,4 +1,4 @@
-use Rattle.std.proofs.Common.{◌<◌, length, inl, inr, refl, sym, ◌∙◌, arith}
+use Rattle.std.proofs.Common.{◌<◌, length, inl, inr, refl, arith}
 use Rattle.dw_journal.specs.History.{History}
 use Rattle.dw_judge.specs.declared.dues.Due.TheVariants as dues
 use Rattle.dw_judge.specs.Verdicts.{history_before}

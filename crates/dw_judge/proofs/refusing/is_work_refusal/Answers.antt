@@ -1,6 +1,5 @@
-use Rattle.std.proofs.Common.{◌≡◌, Bool, true, false, sym, ◌∙◌}
+use Rattle.std.proofs.Common.{sym, ◌∙◌}
 use Rattle.std.proofs.lemmas.Bool.{false≢true}
-use Rattle.dw_model.specs.declared.refusals.Refusal.TheVariants.{Memory}
 use Rattle.dw_judge.specs.Judging.{seen_in}
 use Rattle.dw_judge.proofs.RefusalTests.{or_memory, replied-decides, work_seen}
 use Rattle.dw_judge.proofs.refusing.is_work_refusal.Goals as goal

@@ -1,5 +1,4 @@
-use Rattle.std.proofs.Common.{◌∙◌, arith}
-use Rattle.std.specs.Prelude.{Option, Some, ℕ}
+use Rattle.std.proofs.Common.{arith}
 use Rattle.dw_judge.specs.Readings.{snapshot_kept}
 use Rattle.dw_judge.proofs.Readings.{least_more}
 use Rattle.dw_judge.proofs.summaries.horizon_of.Goals as goal
