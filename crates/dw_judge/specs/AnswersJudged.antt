@@ -36,7 +36,8 @@ IsAnsweredBy files (Some statement) answer one next = IsAnswered files statement
 -- what comes of an answer
 abbrev pub IsAnswering : Files → Option Statement → Tables → Option OpenOne → Reply → Judged → Type 0
 IsAnswering files statement database transaction answer (Legal next) =
-    IsLegalAnswer files statement (seen_in database transaction) answer × IsAnsweredBy files statement answer transaction next
+    IsLegalAnswer files statement (seen_in database transaction) answer
+    × IsAnsweredBy files statement answer transaction next
 IsAnswering files statement database transaction answer NotLegal =
     IsLegalAnswer files statement (seen_in database transaction) answer → ⊥
 

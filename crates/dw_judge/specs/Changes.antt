@@ -38,18 +38,21 @@ pub record IsKeptBut (events : List Event) (history : History) (session : ℕ) (
 
 -- The summary stands for the history but that the commits, the database and the stamps are already those after the
 -- event, as is the transaction that its session is to have, and the session's own is taken out.
-pub record IsReady (events : List Event) (history : History) (event : Event) (session : ℕ) (transaction : Option OpenOne)
-    (summary : Summary) : Type 0 where
+pub record IsReady (events : List Event) (history : History) (event : Event) (session : ℕ)
+    (transaction : Option OpenOne) (summary : Summary) : Type 0 where
   pub number : length summary.sessions.items ≡ suc (session_count history.world)
   pub as_many : length summary.horizons.items ≡ suc (session_count history.world)
   pub others : (other : ℕ) (kept : Session) → other ≢ session → slice_get summary.sessions.items other ≡ Some kept
       → IsKept events history other kept
-  pub own : (kept : Session) → slice_get summary.sessions.items session ≡ Some kept → IsKeptBut events history session kept
+  pub own : (kept : Session) → slice_get summary.sessions.items session ≡ Some kept
+      → IsKeptBut events history session kept
   pub horizons : AreHorizons history summary.horizons.items
   pub certified_are : reverse summary.commits.items ≡ certified (with_event history event)
   pub newest : summary.database ≡ contents (with_event history event)
-  pub stamps : (cluster : ℕ) → stamp_kept summary.stamps.items cluster ≡ refreshed cluster (with_event history event).events
-  pub has_open : HasOpen (with_event history event) session (transaction_of session (with_event history event).events) transaction
+  pub stamps : (cluster : ℕ)
+      → stamp_kept summary.stamps.items cluster ≡ refreshed cluster (with_event history event).events
+  pub has_open : HasOpen (with_event history event) session
+      (transaction_of session (with_event history event).events) transaction
 
 -- an event that leaves its session's transaction as it is, and commits and refreshes nothing
 abbrev pub LeavesTransaction : Event → Type 0
@@ -90,5 +93,6 @@ widened_by statement one = record {
 
 -- an event that follows is legal, and the summary stands for the history with it; or it isn't legal
 abbrev pub IsJudged : List Event → History → Event → Summary → Bool → Type 0
-IsJudged events history event after true = IsLegalAfter history event × StandsFor events (with_event history event) after
+IsJudged events history event after true =
+    IsLegalAfter history event × StandsFor events (with_event history event) after
 IsJudged events history event after false = IsLegalAfter history event → ⊥

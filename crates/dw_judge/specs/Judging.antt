@@ -1,5 +1,5 @@
--- What an event is judged by, read off what is kept: whether its numbers are the due ones, as tests, what a session sees,
--- and where a statement is worked on.
+-- What an event is judged by, read off what is kept: whether its numbers are the due ones, as tests, what a session
+-- sees, and where a statement is worked on.
 use Rattle.std.specs.Prelude.{ℕ, ◌+◌, Bool, true, ◌&&◌, nat_eq, nat_le, nat_lt, if◌then◌else◌, List, length, Option, Some, None}
 use Rattle.std.specs.List.{count_by, find, range_with_len}
 use Rattle.dw_model.specs.declared.statements.Statement.{Statement}
@@ -21,7 +21,8 @@ are_marks count due_low due_high stamp low high =
 
 -- those of a violation with these watermarks, whose object is named or not
 abbrev pub are_violating : ℕ → ℕ → ℕ → ℕ → Bool → Bool
-are_violating due_low due_high low high named = ((nat_eq low due_low && nat_eq high due_high) && nat_le low high) && named
+are_violating due_low due_high low high named =
+    ((nat_eq low due_low && nat_eq high due_high) && nat_le low high) && named
 
 -- those of a refresh, of so many clusters and after so many commits
 abbrev pub is_refresh_of : ℕ → ℕ → ℕ → ℕ → Bool
@@ -44,15 +45,18 @@ written_none_in (Some one) = nat_eq (length one.taken.writes) 0
 
 -- whether a statement may leave the main nodes, on which so many are open
 abbrev pub leaves_kept : Statement → ℕ → ℕ → Option OpenOne → Bool
-leaves_kept statement slots open_main transaction = (is_select statement && nat_le slots open_main) && written_none_in transaction
+leaves_kept statement slots open_main transaction =
+    (is_select statement && nat_le slots open_main) && written_none_in transaction
 
 -- whether a cluster can take a statement of this snapshot
 abbrev pub takes_kept : List Event → List Session → List (Option ℕ) → ℕ → ℕ → ℕ → Bool
 takes_kept events sessions stamps slots snapshot cluster =
-    shows (stamp_kept stamps cluster) snapshot && nat_lt (count_by (is_kept_open_on events (Cluster cluster)) sessions) slots
+    shows (stamp_kept stamps cluster) snapshot
+    && nat_lt (count_by (is_kept_open_on events (Cluster cluster)) sessions) slots
 
 -- where a statement of this snapshot is worked on, by the sessions with a script
 abbrev pub route_kept : List Event → Shape → List Session → List (Option ℕ) → Option OpenOne → ℕ → Statement → Route
 route_kept events shape sessions stamps transaction snapshot statement =
     if leaves_kept statement shape.slots (count_by (is_kept_open_on events Main) sessions) transaction
-    then cluster_or_main (find (takes_kept events sessions stamps shape.slots snapshot) (range_with_len 1 shape.clusters)) else Main
+    then cluster_or_main
+    (find (takes_kept events sessions stamps shape.slots snapshot) (range_with_len 1 shape.clusters)) else Main

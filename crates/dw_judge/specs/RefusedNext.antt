@@ -8,6 +8,7 @@ use Rattle.dw_journal.specs.declared.BlockState.{BlockState}
 use Rattle.dw_journal.specs.declared.BlockState.TheVariants.{Outside, Within, Aborted}
 use Rattle.dw_journal.specs.declared.Certified.{Certified}
 use Rattle.dw_journal.specs.declared.Given.{Given}
+use Rattle.dw_journal.specs.declared.Taken.{Taken}
 use Rattle.dw_journal.specs.Turns.{Call, IsForeign, Commits, Sweeps, Works, call_of}
 use Rattle.dw_journal.specs.Legal.{high_by, low_by, sweep_refusal, table_refusal}
 use Rattle.dw_commit.specs.declared.work.Replied.{Replied}
@@ -34,10 +35,14 @@ opening_kept swept database seen (Sweeps table) Outside = sweep_refusal swept (t
 opening_kept swept database seen (Works given) block = bound_refusal given (def_of seen)
 opening_kept swept database seen call block = None
 
+-- what a transaction took, if one is open
+abbrev pub took : Option OpenOne → Option Taken
+took transaction = option_map (λ (one : OpenOne). one.taken) transaction
+
 -- a commit may be refused for want of memory where it would be legal
 abbrev pub IsCommitKept : List Certified → Option OpenOne → Refusal → Type 0
 IsCommitKept commits transaction refusal =
-    (refusal ≡ Memory) × (high_by commits (option_map (λ (one : OpenOne). one.taken) transaction) < low_by commits (option_map (λ (one : OpenOne). one.taken) transaction))
+    (refusal ≡ Memory) × (high_by commits (took transaction) < low_by commits (took transaction))
 
 -- what may be refused: the COMMIT of a block, and else what isn't opened
 abbrev pub IsRefusedBy : Bool → Type 0 → Option Refusal → Refusal → Type 0
@@ -45,7 +50,8 @@ IsRefusedBy true commits opening refusal = commits
 IsRefusedBy false commits opening refusal = opening ≡ Some refusal
 
 -- the refusal of the next statement, if there is one
-abbrev pub IsNextKept : Tables → Tables → Option ℕ → List Certified → Option OpenOne → Refusal → Option Given → BlockState → Type 0
+abbrev pub IsNextKept : Tables → Tables → Option ℕ → List Certified → Option OpenOne → Refusal → Option Given
+    → BlockState → Type 0
 IsNextKept database seen swept commits transaction refusal None block = ⊥
 IsNextKept database seen swept commits transaction refusal (Some given) block =
     IsRefusedBy (is_block_commit (call_of given) block) (IsCommitKept commits transaction refusal)

@@ -1,7 +1,6 @@
 -- What comes of judging a journal beside its world: that it is right, or the first place where it isn't. Events are
 -- counted from 1.
-use Rattle.std.specs.Prelude.{◌≡◌, ℕ, ◌+◌, false, length, reverse, slice_get, Some}
-use Rattle.std.proofs.Math.ListN.{take}
+use Rattle.std.specs.Prelude.{◌≡◌, ℕ, ◌+◌, false, length, reverse, take, slice_get, Some}
 use Rattle.dw_journal.specs.declared.Event.{Event}
 use Rattle.dw_journal.specs.declared.Journal.{Journal}
 use Rattle.dw_journal.specs.declared.World.{World}

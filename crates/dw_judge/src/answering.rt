@@ -34,7 +34,8 @@ pub(crate) fn judge_answer(
     transaction: Option<OpenOne>,
     answer: &Answer,
 ) -> Result<Answered, AllocError>
-    ensures { IfOk result (IsAnswering world.now.files (statement_at world.now session statement) database.now transaction answer.now) }
+    ensures { IfOk result (IsAnswering world.now.files (statement_at world.now session statement) database.now
+        transaction answer.now) }
 {
     let Some(given) = statement_at(world, session, statement as u64) else {
         return Ok(Answered::NotLegal);

@@ -1,7 +1,6 @@
 //! What an event that is right makes of what is kept.
-ghost use Rattle.std.specs.Prelude.{◌≡◌, ◌<◌, ◌≤◌, suc, Some, length, slice_get, unwrap_or, option_map, vec_len};
+ghost use Rattle.std.specs.Prelude.{drop, ◌≡◌, ◌<◌, ◌≤◌, suc, Some, length, slice_get, unwrap_or, option_map, vec_len};
 ghost use Rattle.std.specs.List.{filter_map, slice_set};
-ghost use Rattle.std.proofs.Math.ListN.{drop};
 ghost use Rattle.dw_journal.specs.History.{session_of, with_event};
 ghost use Rattle.dw_journal.specs.Transactions.{least_of};
 ghost use Rattle.dw_judge.specs.declared.sessions.Session.{Session as Kept};
@@ -73,7 +72,8 @@ fn put(
 )
     requires within { session < vec_len sessions.old }
     ensures kept { (kept : Kept) → slice_get sessions.old.items session ≡ Some kept
-        → sessions.new.items ≡ slice_set sessions.old.items session (session_after world.now event.now place transaction kept) }
+        → sessions.new.items ≡ slice_set sessions.old.items session
+        (session_after world.now event.now place transaction kept) }
     ensures len { vec_len sessions.new ≡ vec_len sessions.old }
 {
     sessions[session as usize].advance(world, event, place, transaction);

@@ -1,8 +1,7 @@
 //! What a session sees, and whether an opening is legal.
-ghost use Rattle.std.specs.Prelude.{◌≡◌, ◌<◌, ◌≤◌, length, vec_len, is_some, not, IfOk};
+ghost use Rattle.std.specs.Prelude.{drop, ◌≡◌, ◌<◌, ◌≤◌, length, vec_len, is_some, not, IfOk};
 ghost use Rattle.std.specs.Bool.{Decides};
 ghost use Rattle.std.specs.List.{find, range_with_len};
-ghost use Rattle.std.proofs.Math.ListN.{drop};
 ghost use Rattle.dw_model.specs.Binding.{bound_refusal};
 ghost use Rattle.dw_model.specs.Databases.{def_of};
 ghost use Rattle.dw_journal.specs.declared.Route.TheVariants as route;

@@ -21,8 +21,8 @@ use dw_model::{Answer, Database, Statement, add_objects};
 use dw_value::List;
 use std::alloc::{AllocError, Global};
 
-/// A statement that is run on what its session sees has been opened. Where no transaction was open, one begins, and sees
-/// the committed database. It takes the statement's objects.
+/// A statement that is run on what its session sees has been opened. Where no transaction was open, one begins, and
+/// sees the committed database. It takes the statement's objects.
 pub(crate) fn open(
     alloc: Global,
     world: &World,

@@ -64,7 +64,8 @@ pub(crate) fn is_legal_refusal(
     }
 }
 
-/// Whether an open statement may be refused so: for want of memory, or as it is when it is run on what its session sees.
+/// Whether an open statement may be refused so: for want of memory, or as it is when it is run on what its session
+/// sees.
 fn is_work_refusal(
     alloc: Global,
     world: &World,

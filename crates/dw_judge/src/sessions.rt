@@ -38,7 +38,8 @@ pub(crate) struct Session {
 impl Session {
     /// A session that has done nothing yet.
     pub(crate) fn fresh() -> Session
-        ensures { result ≡ record { taken = 0; block = blocks.Outside; newest = None; sweeps = false; transaction = None } }
+        ensures { result
+            ≡ record { taken = 0; block = blocks.Outside; newest = None; sweeps = false; transaction = None } }
     {
         Session {
             taken: 0,

@@ -21,6 +21,6 @@ pub enum Verdict {
 
 /// A journal has one verdict beside its world. So each comes exactly where its definition says.
 pub fn one_verdict()
-    ensures { (world : Beside) (journal : Events) (a b : Found) → IsVerdict world journal a → IsVerdict world journal b →
-        a ≡ b }
+    ensures { (world : Beside) (journal : Events) (a b : Found) →
+        IsVerdict world journal a → IsVerdict world journal b → a ≡ b }
 {}
