@@ -21,7 +21,9 @@ use crate::waits::is_legal_wait;
 use dw_journal::{Event, Journal, World};
 use std::alloc::{AllocError, Global};
 
-/// Judges a journal beside its world.
+/// The verdict on a journal beside its world, which has at most 64 scripts: that it is right, with the committed tables
+/// that it leaves, or the first event that isn't due or isn't legal. The journal may be any; events are judged one after
+/// another, and each commit is compared with all commits before it. An `Err` comes only for want of memory.
 pub fn judge(alloc: Global, world: &World, journal: &Journal) -> Result<Verdict, AllocError>
     requires { session_count world.now ≤ 64 }
     ensures { IfOk result (IsVerdict world.now journal.now) }
