@@ -9,3 +9,7 @@ pub mod Taking
 pub mod TakenParts
 pub mod TakenEvents
 pub mod TakenLines
+pub mod Again
+pub mod AgainParts
+pub mod AgainEvents
+pub mod AgainLines

@@ -97,10 +97,10 @@ abbrev AreShort : ℕ × ℕ → Type 0
 AreShort x = IsShort x.0 × IsShort x.1
 
 -- two and three parts after what comes first, each after a label
-two_more : (s a x b y c : List ℕ) → s ++ a ++ x ++ b ++ y ++ c ≡ ((s ++ (a ++ x)) ++ (b ++ y)) ++ c
+pub two_more : (s a x b y c : List ℕ) → s ++ a ++ x ++ b ++ y ++ c ≡ ((s ++ (a ++ x)) ++ (b ++ y)) ++ c
 two_more s a x b y c = simp append_assoc
 
-three_more : (s a x b y c z d : List ℕ) → s ++ a ++ x ++ b ++ y ++ c ++ z ++ d ≡ (((s ++ (a ++ x)) ++ (b ++ y)) ++ (c ++ z)) ++ d
+pub three_more : (s a x b y c z d : List ℕ) → s ++ a ++ x ++ b ++ y ++ c ++ z ++ d ≡ (((s ++ (a ++ x)) ++ (b ++ y)) ++ (c ++ z)) ++ d
 three_more s a x b y c z d = simp append_assoc
 
 takes_begin : Takes tail_text (IsOfKind kinds.Begin) begin_at
@@ -200,10 +200,10 @@ takes_closed_text = record {
 }
 
 -- whether an object is of rows, as it is printed
-abbrev form_text : Bool → List ℕ
+abbrev pub form_text : Bool → List ℕ
 form_text rows = cond rows (codes "rows(") (codes "def(")
 
-same_object_text : (x : Bool × List ℕ) → object_text (object_of x) ≡ form_text x.0 ++ (field x.1 ++ codes ")")
+pub same_object_text : (x : Bool × List ℕ) → object_text (object_of x) ≡ form_text x.0 ++ (field x.1 ++ codes ")")
 same_object_text x = by_form x.0 x.1
   where
     by_form : (rows : Bool) (name : List ℕ) → object_text (object_of (rows, name)) ≡ form_text rows ++ (field name ++ codes ")")
@@ -231,7 +231,7 @@ takes_violation =
     (takes_after (codes " high ") takes_long)) (takes_after (codes " ") takes_object)))
 
 -- vacuums
-abbrev step_text : Step → List ℕ
+abbrev pub step_text : Step → List ℕ
 step_text steps.Begin = codes " begin "
 step_text steps.Slice = codes " slice "
 step_text steps.End = codes " end"
@@ -243,10 +243,10 @@ takes_step =
     (takes_otherwise (takes_word (codes " slice ") steps.Slice step_text (λ step. Unit {0}) refl tt)
     (takes_word (codes " end") steps.End step_text (λ step. Unit {0}) refl tt))
 
-one_more : (s a x b : List ℕ) → s ++ a ++ x ++ b ≡ s ++ (a ++ (x ++ b))
+pub one_more : (s a x b : List ℕ) → s ++ a ++ x ++ b ≡ s ++ (a ++ (x ++ b))
 one_more s a x b = simp append_assoc
 
-slice_more : (s a x b y c : List ℕ) → s ++ a ++ x ++ b ++ y ++ c ≡ s ++ (a ++ ((x ++ (b ++ y)) ++ c))
+pub slice_more : (s a x b y c : List ℕ) → s ++ a ++ x ++ b ++ y ++ c ≡ s ++ (a ++ ((x ++ (b ++ y)) ++ c))
 slice_more s a x b y c = simp append_assoc
 
 regroup : (place label tail more : List ℕ) → place ++ (label ++ (tail ++ more)) ≡ (place ++ (label ++ tail)) ++ more
@@ -293,7 +293,7 @@ takes_vacuum = record {
 }
 
 -- refusals: the number and the first word, and the rest
-abbrev reason_text : Reason → List ℕ
+abbrev pub reason_text : Reason → List ℕ
 reason_text reasons.Syntax = codes "1 syntax "
 reason_text reasons.Unknown = codes "2 unknown "
 reason_text reasons.Exists = codes "3 exists "
@@ -329,11 +329,11 @@ takes_reason =
     (takes_otherwise (takes_word (codes "10 deadlock") reasons.Deadlock reason_text IsAny refl tt) takes_rarer_reason)))))
 
 -- a refusal's number and text
-abbrev refused_text : Refusal → List ℕ
+abbrev pub refused_text : Refusal → List ℕ
 refused_text refusal = decimal (number_of refusal) ++ codes " " ++ refusal_text refusal
 
 -- what a refusal says after the first word of its text
-abbrev rest_text : Refusal → List ℕ
+abbrev pub rest_text : Refusal → List ℕ
 rest_text (refusals.Syntax place) = decimal place
 rest_text (refusals.Unknown name) = field name
 rest_text (refusals.Exists name) = field name
@@ -342,7 +342,7 @@ rest_text (refusals.Vacuuming session) = decimal session
 rest_text (refusals.Limit count) = decimal count
 rest_text refusal = []
 
-abbrev reason_of : Refusal → Reason
+abbrev pub reason_of : Refusal → Reason
 reason_of (refusals.Syntax place) = reasons.Syntax
 reason_of (refusals.Unknown name) = reasons.Unknown
 reason_of (refusals.Exists name) = reasons.Exists
@@ -355,7 +355,7 @@ reason_of (refusals.Vacuuming session) = reasons.Vacuuming
 reason_of (refusals.Limit count) = reasons.Limit
 reason_of refusals.Memory = reasons.Memory
 
-refused_is : (refusal : Refusal) → refused_text refusal ≡ reason_text (reason_of refusal) ++ rest_text refusal
+pub refused_is : (refusal : Refusal) → refused_text refusal ≡ reason_text (reason_of refusal) ++ rest_text refusal
 unfolding digits
 refused_is (refusals.Syntax place) = refl
 refused_is (refusals.Unknown name) = refl
@@ -403,7 +403,7 @@ takes_refusal = record {
       );
 }
 
-refusal_line : (s a n b t c : List ℕ) → s ++ a ++ n ++ b ++ t ++ c ≡ (s ++ (a ++ (n ++ b ++ t))) ++ c
+pub refusal_line : (s a n b t c : List ℕ) → s ++ a ++ n ++ b ++ t ++ c ≡ (s ++ (a ++ (n ++ b ++ t))) ++ c
 refusal_line s a n b t c = simp append_assoc
 
 takes_refuse : Takes tail_text (IsOfKind kinds.Refuse) refuse_at
@@ -424,13 +424,13 @@ IsHead kind (heads.Whole event) = IsOfKind kind event
 IsHead kind (heads.WithRows session statement count) = (IsShort session × IsShort statement × IsLong count) × (kinds.Answer ≡ kind)
 
 -- the words that an answer begins with
-abbrev answer_word_text : Word → List ℕ
+abbrev pub answer_word_text : Word → List ℕ
 answer_word_text words.CreateTable = codes " CREATE TABLE"
 answer_word_text words.Insert = codes " INSERT "
 answer_word_text words.Select = codes " SELECT "
 answer_word_text word = []
 
-abbrev IsAnswerWord : Word → Type 0
+abbrev pub IsAnswerWord : Word → Type 0
 IsAnswerWord words.CreateTable = Unit {0}
 IsAnswerWord words.Insert = Unit {0}
 IsAnswerWord words.Select = Unit {0}
@@ -451,10 +451,10 @@ after_words place label bytes more rest tail read head is same here fits =
     moved head_text (IsHead kinds.Answer) (place ++ (label ++ bytes)) more rest read head is
     (ap (λ x. place ++ (label ++ x)) here ∙ regroup place label tail more ∙ ap (λ x. x ++ more) (sym same)) fits
 
-insert_line : (p n c : List ℕ) → p ++ codes " " ++ (codes "INSERT" ++ codes " " ++ n ++ c) ≡ p ++ (codes " INSERT " ++ (n ++ c))
+pub insert_line : (p n c : List ℕ) → p ++ codes " " ++ (codes "INSERT" ++ codes " " ++ n ++ c) ≡ p ++ (codes " INSERT " ++ (n ++ c))
 insert_line p n c = simp append_assoc
 
-create_line : (p : List ℕ) → p ++ codes " " ++ (codes "CREATE TABLE" ++ codes "\n") ≡ p ++ (codes " CREATE TABLE" ++ codes "\n")
+pub create_line : (p : List ℕ) → p ++ codes " " ++ (codes "CREATE TABLE" ++ codes "\n") ≡ p ++ (codes " CREATE TABLE" ++ codes "\n")
 create_line p = simp append_assoc
 
 abbrev AnswerTaken : Word → ℕ → ℕ → Head → List ℕ → List ℕ → Type 0

@@ -53,7 +53,7 @@ four_after n k c a s b = simp append_assoc
 two_after : (n k s b : List ℕ) → n ++ k ++ s ++ b ≡ n ++ k ++ (s ++ b)
 two_after n k s b = simp append_assoc
 
-event_is : (number : ℕ) (event : Event) → event_lines number event ≡ decimal number ++ kind_text (kind_of event) ++ tail_text event
+pub event_is : (number : ℕ) (event : Event) → event_lines number event ≡ decimal number ++ kind_text (kind_of event) ++ tail_text event
 event_is n (events.Begin s q) = one_part (decimal n) (codes " begin ") (decimal s) (codes " ") (decimal q) (codes "\n")
 event_is n (events.Pass s q word) = three_parts (decimal n) (codes " pass ") (decimal s) (codes " ") (decimal q) (codes " ") (word_text word) (codes "\n")
 event_is n (events.Wait s q holders) = three_parts (decimal n) (codes " wait ") (decimal s) (codes " ") (decimal q) (codes " for") (numbers_text holders) (codes "\n")

@@ -238,7 +238,7 @@ first_line : (a n b s c k d l e m f : List ℕ)
     ≡ (((((a ++ n) ++ (b ++ s)) ++ (c ++ k)) ++ (d ++ l)) ++ (e ++ m)) ++ f
 first_line a n b s c k d l e m f = simp append_assoc
 
-header_is : (x : (((ℕ × ℕ) × ℕ) × ℕ) × ℕ) → header (shape_of x)
+pub header_is : (x : (((ℕ × ℕ) × ℕ) × ℕ) × ℕ) → header (shape_of x)
     ≡ (((((codes "warehouse nodes " ++ decimal x.0.0.0.0) ++ (codes " slices " ++ decimal x.0.0.0.1))
     ++ (codes " clusters " ++ decimal x.0.0.1)) ++ (codes " slots " ++ decimal x.0.1)) ++ (codes " sessions " ++ decimal x.1)) ++ codes "\n"
 unfolding header

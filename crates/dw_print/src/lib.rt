@@ -20,7 +20,10 @@ mod tables;
 
 pub use checked::checked_text;
 pub use faults::ReportFault;
-pub use laws::{fields_read_back, read_parts_are_printed, shown_fields_are_apart};
+pub use laws::{
+    fields_read_back, one_reading, printed_reports_are_read, read_parts_are_printed,
+    shown_fields_are_apart,
+};
 pub use reading::{ReadReport, read_report};
 pub use report::report_text;
 
