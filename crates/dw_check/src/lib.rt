@@ -3,8 +3,10 @@
 
 mod check;
 mod ends;
+mod laws;
 
 pub use check::top_check;
+pub use laws::right_reports_are_due;
 
 #[cfg(test)]
 mod tests;
