@@ -1,3 +1,5 @@
 pub mod WalkLemmas
 pub mod LevelLemmas
 pub mod SearchLemmas
+pub mod TableLemmas
+pub mod Standing

@@ -1,1 +1,4 @@
 pub mod Walks
+pub mod LockTable
+pub mod Grants
+pub mod Requests

@@ -138,7 +138,7 @@ fn first_walk(
 /// the background worker, session 0: different sessions, of which it is the first; each waits for the next and the last for
 /// the first. It is the shortest one, and of the shortest the least where each line ascends. There is none where `None`
 /// comes. For each step of the cycle it passes once over all lines; an `Err` comes only for want of memory.
-pub fn first_cycle(
+pub(crate) fn first_cycle(
     alloc: Global,
     waits: &[List<u32>],
     session: u32,

@@ -1,9 +1,15 @@
-//! The cycle of sessions that a wait for locks would close.
+//! The table of locks: who holds which locks of tables, who waits for whom, and the cycle that a wait would close.
 #![tactic(auto)]
 
+mod blockers;
 mod cycles;
+mod entries;
+mod laws;
+mod locks;
 
-pub use cycles::first_cycle;
+pub use dw_journal::{Mode, Want};
+pub use laws::table_answers_as_events_do;
+pub use locks::{Asked, Locks};
 
 #[cfg(test)]
 mod tests;

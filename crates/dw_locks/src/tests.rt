@@ -1,9 +1,11 @@
-//! Tests of cycles.
-ghost use Rattle.std.specs.Prelude.{◌<◌, All, IsTrue};
+//! Tests of cycles, and of the table of locks.
+ghost use Rattle.std.specs.Prelude.{◌<◌, length, All, IsTrue};
 ghost use Rattle.dw_locks.specs.Walks.{AreSessions};
 
 use crate::cycles::first_cycle;
-use dw_value::List;
+use crate::locks::{Asked, Locks};
+use dw_journal::{Mode, Want};
+use dw_value::{List, Text};
 use std::alloc::{AllocError, Global};
 use std::test::Fail;
 
@@ -81,6 +83,121 @@ fn holds(alloc: Global, row: &str) -> Result<bool, AllocError> {
 fn cycles_are_the_shortest_and_least(rt: HostRuntime) -> Result<(), Fail> {
     for row in ROWS.lines() {
         assert!(rt; holds(rt.alloc(), row)?, "{row}");
+    }
+    Ok(())
+}
+
+/// In each row the calls on one table of four sessions, and what each is answered: a session asks for locks (`s` in
+/// `AccessShare`, `r` in `ShareRowExclusive`, `x` in `AccessExclusive`), releases its own or withdraws its last grant,
+/// and one asks who holds a table.
+const CALLS: &str =
+    "1 x.a: granted; 2 x.b: granted; 1 x.b: waits 2; 2 x.a: deadlock 2 1; 2 release: done; 1 x.b: granted
+1 x.a: granted; 2 x.b: granted; 3 x.c: granted; 1 x.b: waits 2; 2 x.c: waits 3; 3 x.a: deadlock 3 1 2
+1 s.a: granted; 2 s.a: granted; 3 s.b: granted; 1 x.b: waits 3; 2 x.b: waits 3; 3 x.a: deadlock 3 1
+1 x.a: granted; 2 s.b: granted; 3 s.b x.c: granted; 2 x.c: waits 3; 3 x.a: waits 1; 1 x.b: deadlock 1 3
+1 s.a: granted; 2 r.a: granted; 3 s.a: granted; holder a: none; 4 x.a: waits 1 2 3
+1 r.a: granted; 2 r.a: waits 1; 2 s.a r.a: waits 1
+1 s.a: granted; 1 x.a: granted; 1 r.a x.b: granted; holder a: 1; holder b: 1
+3 s.a: granted; 1 s.a: granted; 2 s.a: granted; 4 x.a: waits 1 2 3; 1 release: done; 4 x.a: waits 2 3
+0 s.a: granted; 1 x.a: waits 0; 2 s.a: granted; 1 x.a: waits 0 2; 0 release: done; 2 release: done; 1 x.a: granted
+1 x.a x.b: granted; 2 x.b: waits 1; 1 release: done; 2 x.a x.b: granted; holder b: 2
+1 x.a: granted; 2 x.b: granted; 1 x.b: waits 2; 1 release: done; 2 x.a: granted
+1 x.a: granted; 1 x.b: granted; 1 withdraw: done; 2 x.b: granted; 3 x.a: waits 1; holder a: 1; 1 withdraw: kept
+1 x.a: granted; 2 x.b: granted; 1 x.b: waits 2; 1 s.c: granted; 1 withdraw: done; 2 x.a: deadlock 2 1
+5 x.a: no session";
+
+/// The lock of a word.
+fn want_of(alloc: Global, word: &str) -> Result<Want, AllocError> {
+    let (mode, table) = word.split_once('.').unwrap_or(("", ""));
+    let mode = if mode == "s" {
+        Mode::AccessShare
+    } else if mode == "r" {
+        Mode::ShareRowExclusive
+    } else {
+        Mode::AccessExclusive
+    };
+    Ok(Want {
+        table: Text::from_str(alloc, table)?,
+        mode,
+    })
+}
+
+/// The word, and then the sessions, a space before each.
+fn listed(alloc: Global, word: &str, sessions: &[u32]) -> Result<String, AllocError> {
+    let mut text = String::from_str(alloc, word)?;
+    for session in sessions {
+        let more = format!(in alloc; " {session}")?;
+        text.push_str(more.as_str())?;
+    }
+    Ok(text)
+}
+
+/// What a session that asks for the locks of these words is answered.
+fn asked(alloc: Global, locks: &mut Locks, session: u32, words: &str) -> Result<String, AllocError>
+    requires { session < length locks.old }
+{
+    let mut wants = List::new(alloc);
+    for word in words.split(' ') {
+        wants.push(want_of(alloc, word)?)?;
+    }
+    match locks.request(session, &wants)? {
+        Asked::Granted => String::from_str(alloc, "granted"),
+        Asked::Waits { holders } => listed(alloc, "waits", holders.as_slice()),
+        Asked::Deadlock { cycle } => listed(alloc, "deadlock", cycle.as_slice()),
+    }
+}
+
+/// Who holds the table.
+fn held(alloc: Global, locks: &Locks, table: &str) -> Result<String, AllocError> {
+    let table = Text::from_str(alloc, table)?;
+    match locks.holder(&table) {
+        Some(session) => format!(in alloc; "{session}"),
+        None => String::from_str(alloc, "none"),
+    }
+}
+
+/// What a call is answered.
+fn answer_of(alloc: Global, locks: &mut Locks, call: &str) -> Result<String, AllocError> {
+    let (first, rest) = call.split_once(' ').unwrap_or(("", ""));
+    if first == "holder" {
+        return held(alloc, locks, rest);
+    }
+    let session = first.parse::<u32>().unwrap_or(9);
+    if session as usize >= locks.len() || locks.is_empty() {
+        return String::from_str(alloc, "no session");
+    }
+    if rest == "release" {
+        locks.release(session);
+        return String::from_str(alloc, "done");
+    }
+    if rest == "withdraw" {
+        if !locks.can_withdraw(session) {
+            return String::from_str(alloc, "kept");
+        }
+        locks.withdraw(session);
+        return String::from_str(alloc, "done");
+    }
+    asked(alloc, locks, session, rest)
+}
+
+/// The first call of a row that isn't answered as it says.
+fn fault_of(alloc: Global, row: &'static str) -> Result<&'static str, AllocError> {
+    let mut locks = Locks::new(alloc, 4)?;
+    for call in row.split(';') {
+        let (asked, wanted) = call.split_once(':').unwrap_or(("", ""));
+        let answer = answer_of(alloc, &mut locks, asked.trim())?;
+        if answer.as_str() != wanted.trim() {
+            return Ok(call);
+        }
+    }
+    Ok("")
+}
+
+#[test]
+fn calls_are_answered(rt: HostRuntime) -> Result<(), Fail> {
+    for row in CALLS.lines() {
+        let fault = fault_of(rt.alloc(), row)?;
+        assert_eq!(rt; fault, "", "{row}");
     }
     Ok(())
 }
