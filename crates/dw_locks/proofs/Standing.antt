@@ -14,7 +14,7 @@ module _ (table : LockTable) (state : LockState) (stands : StandsForLocks table 
   pub blockers_are : (session : ℕ) (asked : List Want) → table_blockers table session asked ≡ blockers state session asked
   blockers_are session asked =
       let same : is_blocker table session asked ≡ (λ other. not (other == session) && has_conflict state asked other) =
-      fun_ext (λ other. ap (λ held. not (other == session) && list_any (λ lock. list_any (stands_in_way lock) asked) held) (stands.held other)) in
+      fun_ext (λ other. ap (λ told. not (other == session) && told) (stands.held other (λ lock. list_any (stands_in_way lock) asked))) in
       ap (λ test. filter test (range_with_len 0 (length table))) same
       ∙ ap (λ count. filter (λ other. not (other == session) && has_conflict state asked other) (range_with_len 0 count)) stands.counted
 

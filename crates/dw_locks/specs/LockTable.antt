@@ -96,9 +96,13 @@ abbrev pub wants_waited : LockState → ℕ → Option Event → Option (List Wa
 wants_waited state session (Some (Wait other statement holders)) = Some (state.wants session statement)
 wants_waited state session event = None
 
--- A table stands for a state of locks: each session, and the background worker, holds what the events say, and waits
--- for the locks of the statement of its newest event where that is a wait.
+-- the same locks stand in two lists, in whatever order and however often: what one of these is, one of those is too
+abbrev pub HaveSame : List Want → List Want → Type 0
+HaveSame these those = (test : Want → Bool) → list_any test these ≡ list_any test those
+
+-- A table stands for a state of locks: each session, and the background worker, holds the locks that the events say,
+-- and waits for the locks of the statement of its newest event where that is a wait.
 pub record StandsForLocks (table : LockTable) (state : LockState) : Type 0 where
   pub counted : length table ≡ suc state.sessions
-  pub held : (session : ℕ) → (entry_of table session).held ≡ held_locks state session
+  pub held : (session : ℕ) → HaveSame (entry_of table session).held (held_locks state session)
   pub waits : (session : ℕ) → (entry_of table session).waits ≡ wants_waited state session (newest_event session state.events)
