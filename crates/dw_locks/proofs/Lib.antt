@@ -3,3 +3,4 @@ pub mod LevelLemmas
 pub mod SearchLemmas
 pub mod TableLemmas
 pub mod Standing
+pub mod HeldOnce

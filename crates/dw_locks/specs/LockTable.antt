@@ -4,7 +4,7 @@ use Rattle.std.specs.Prelude.{◌≡◌, ℕ, suc, Bool, true, false, not, ◌==
 use Rattle.std.specs.List.{filter, find, list_any, range_with_len}
 use Rattle.dw_model.specs.Binding.{same_name}
 use Rattle.dw_journal.specs.declared.locks.Mode.{Mode}
-use Rattle.dw_journal.specs.declared.locks.Mode.TheVariants.{AccessExclusive}
+use Rattle.dw_journal.specs.declared.locks.Mode.TheVariants.{AccessShare, ShareRowExclusive, AccessExclusive}
 use Rattle.dw_journal.specs.declared.locks.Want.{Want}
 use Rattle.dw_journal.specs.declared.Event.{Event}
 use Rattle.dw_journal.specs.declared.Event.TheVariants.{Wait}
@@ -73,10 +73,23 @@ holds_exclusively name entry = list_any (λ lock. same_name lock.table name && i
 abbrev pub exclusive_holder : LockTable → List ℕ → Option ℕ
 exclusive_holder table name = find (λ session. holds_exclusively name (entry_of table session)) (range_with_len 0 (length table))
 
+abbrev pub same_mode : Mode → Mode → Bool
+same_mode AccessShare AccessShare = true
+same_mode ShareRowExclusive ShareRowExclusive = true
+same_mode AccessExclusive AccessExclusive = true
+same_mode a b = false
+
+abbrev pub same_lock : Want → Want → Bool
+same_lock a b = same_name a.table b.table && same_mode a.mode b.mode
+
+-- those of these locks that aren't held yet
+abbrev pub not_held : List Want → List Want → List Want
+not_held held wants = filter (λ want. not (list_any (same_lock want) held)) wants
+
 -- what an entry is once these locks are granted, once it waits for them, and once its last grant is withdrawn
 abbrev pub granted : List Want → LockEntry → LockEntry
 granted wants entry = record {
-  held = entry.held ++ wants;
+  held = entry.held ++ not_held entry.held wants;
   waits = None;
   before = Some (record { held = entry.held; waits = entry.waits });
 }

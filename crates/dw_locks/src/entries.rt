@@ -4,7 +4,7 @@ ghost use Rattle.std.specs.Option.{option_copied};
 ghost use Rattle.std.specs.List.{list_any};
 ghost use Rattle.dw_model.specs.Binding.{same_name};
 ghost use Rattle.dw_journal.specs.Locks.{conflict, stands_in_way};
-ghost use Rattle.dw_locks.specs.LockTable.{free_entry, granted, holds_against, holds_exclusively, is_exclusive, waiting, withdrawn};
+ghost use Rattle.dw_locks.specs.LockTable.{free_entry, granted, holds_against, holds_exclusively, is_exclusive, not_held, same_lock, same_mode, waiting, withdrawn};
 
 use dw_journal::{Mode, Want};
 use dw_value::{List, Text};
@@ -86,6 +86,52 @@ fn copies_of(alloc: Global, wants: &[Want]) -> Result<List<Want>, AllocError>
     Ok(copies)
 }
 
+/// Whether these are locks on the same table in the same mode.
+fn is_same_lock(one: &Want, other: &Want) -> bool
+    ensures { result ≡ same_lock one.now other.now }
+{
+    one.table == other.table && is_same_mode(one.mode, other.mode)
+}
+
+/// Whether these are the same mode.
+fn is_same_mode(one: Mode, other: Mode) -> bool
+    ensures { result ≡ same_mode one other }
+{
+    match one {
+        Mode::AccessShare => matches!(other, Mode::AccessShare),
+        Mode::ShareRowExclusive => matches!(other, Mode::ShareRowExclusive),
+        Mode::AccessExclusive => matches!(other, Mode::AccessExclusive),
+    }
+}
+
+/// Whether the lock is among these.
+fn is_held(held: &[Want], want: &Want) -> bool
+    ensures { result ≡ list_any (same_lock want.now) held.now }
+{
+    for lock in held {
+        if is_same_lock(want, lock) {
+            return true;
+        }
+    }
+    false
+}
+
+/// Copies of those of these locks that aren't held yet.
+fn copies_of_new(alloc: Global, held: &[Want], wants: &[Want]) -> Result<List<Want>, AllocError>
+    ensures { IfOk result (λ copies. copies ≡ not_held held.now wants.now) }
+{
+    let mut copies = List::new(alloc);
+    for want in wants {
+        if !is_held(held, want) {
+            copies.push(Want {
+                table: want.table.copy()?,
+                mode: want.mode,
+            })?;
+        }
+    }
+    Ok(copies)
+}
+
 /// What a session was before its last granted request.
 #[derive(Debug, Drop)]
 pub(crate) struct Before {
@@ -158,13 +204,13 @@ impl Entry {
         self.before.is_some()
     }
 
-    /// It holds these locks too, and waits no more.
+    /// It holds these locks too, each that it holds already once, and waits no more.
     pub(crate) fn grant(&mut self, wants: &[Want]) -> Result<(), AllocError>
         ensures ok { OnOk result (self.new ≡ granted wants.now self.old) }
         ensures err { OnErr result (self.new ≡ self.old) }
     {
         let count = self.held.len();
-        let copies = copies_of(*self.held.allocator(), wants)?;
+        let copies = copies_of_new(*self.held.allocator(), self.held.as_slice(), wants)?;
         self.held.append(&mut copies.into_vec())?;
         self.before = Some(Before {
             count,

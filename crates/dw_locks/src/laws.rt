@@ -1,8 +1,8 @@
-//! A law of tables of locks: a call that does nothing, whose contract speaks of every table.
-ghost use Rattle.std.specs.Prelude.{◌≡◌, ℕ, List as Items};
+//! Laws of tables of locks: calls that do nothing, whose contracts speak of every table.
+ghost use Rattle.std.specs.Prelude.{◌≡◌, ◌++◌, ℕ, List as Items};
 ghost use Rattle.dw_journal.specs.declared.locks.Want.{Want as Lock};
 ghost use Rattle.dw_journal.specs.Locks.{LockState, blockers, deadlock_cycle};
-ghost use Rattle.dw_locks.specs.LockTable.{LockTable, StandsForLocks, table_blockers, table_cycle};
+ghost use Rattle.dw_locks.specs.LockTable.{HaveSame, LockEntry, LockTable, StandsForLocks, granted, table_blockers, table_cycle};
 
 /// Where a table stands for the locks that the events of a journal tell of, it gives what those give: who blocks a
 /// session, and the cycle that the session would close.
@@ -11,4 +11,9 @@ pub fn table_answers_as_events_do()
         (session : ℕ) (asked : Items Lock) → table_blockers table session asked ≡ blockers state session asked }
     ensures cycle { (table : LockTable) (state : LockState) → StandsForLocks table state →
         (session : ℕ) (asked : Items Lock) → table_cycle table session asked ≡ deadlock_cycle state session asked }
+{}
+
+/// A grant leaves the locks that were held and those that were asked for, though one that was held already is kept once.
+pub fn grant_adds_what_is_asked()
+    ensures { (entry : LockEntry) → (asked : Items Lock) → HaveSame (granted asked entry).held (entry.held ++ asked) }
 {}

@@ -104,6 +104,7 @@ const CALLS: &str =
 1 x.a: granted; 2 x.b: granted; 1 x.b: waits 2; 1 release: done; 2 x.a: granted
 1 x.a: granted; 1 x.b: granted; 1 withdraw: done; 2 x.b: granted; 3 x.a: waits 1; holder a: 1; 1 withdraw: kept
 1 x.a: granted; 2 x.b: granted; 1 x.b: waits 2; 1 s.c: granted; 1 withdraw: done; 2 x.a: deadlock 2 1
+1 s.a: granted; 1 s.a s.b: granted; 1 withdraw: done; 2 x.b: granted; 2 x.a: waits 1; 1 release: done; 2 x.a: granted
 5 x.a: no session";
 
 /// The lock of a word.
