@@ -59,7 +59,8 @@ table_would_wait_for table session asked other =
 
 -- the cycle that a session would close by asking for these locks
 abbrev pub table_cycle : LockTable → ℕ → List Want → Option (List ℕ)
-table_cycle table session asked = first_cycle (table_would_wait_for table session asked) session (range_with_len 0 (length table))
+table_cycle table session asked =
+    first_cycle (table_would_wait_for table session asked) session (range_with_len 0 (length table))
 
 abbrev pub is_exclusive : Mode → Bool
 is_exclusive AccessExclusive = true
@@ -71,7 +72,8 @@ holds_exclusively name entry = list_any (λ lock. same_name lock.table name && i
 
 -- the least session that holds a table in AccessExclusive
 abbrev pub exclusive_holder : LockTable → List ℕ → Option ℕ
-exclusive_holder table name = find (λ session. holds_exclusively name (entry_of table session)) (range_with_len 0 (length table))
+exclusive_holder table name =
+    find (λ session. holds_exclusively name (entry_of table session)) (range_with_len 0 (length table))
 
 abbrev pub same_mode : Mode → Mode → Bool
 same_mode AccessShare AccessShare = true
@@ -118,4 +120,5 @@ HaveSame these those = (test : Want → Bool) → list_any test these ≡ list_a
 pub record StandsForLocks (table : LockTable) (state : LockState) : Type 0 where
   pub counted : length table ≡ suc state.sessions
   pub held : (session : ℕ) → HaveSame (entry_of table session).held (held_locks state session)
-  pub waits : (session : ℕ) → (entry_of table session).waits ≡ wants_waited state session (newest_event session state.events)
+  pub waits : (session : ℕ) →
+      (entry_of table session).waits ≡ wants_waited state session (newest_event session state.events)

@@ -134,10 +134,10 @@ fn first_walk(
     Ok(Some(walk))
 }
 
-/// The cycle that a session closes where each session waits for those of its line in `waits`, whose first line is that of
-/// the background worker, session 0: different sessions, of which it is the first; each waits for the next and the last for
-/// the first. It is the shortest one, and of the shortest the least where each line ascends. There is none where `None`
-/// comes. For each step of the cycle it passes once over all lines; an `Err` comes only for want of memory.
+/// The cycle that a session closes where each session waits for those of its line in `waits`, whose first line is that
+/// of the background worker, session 0: different sessions, of which it is the first; each waits for the next and the
+/// last for the first. It is the shortest one, and of the shortest the least where each line ascends. There is none
+/// where `None` comes. For each step of the cycle it passes once over all lines. It fails only for want of memory.
 pub(crate) fn first_cycle(
     alloc: Global,
     waits: &[List<u32>],

@@ -13,7 +13,8 @@ pub fn table_answers_as_events_do()
         (session : ℕ) (asked : Items Lock) → table_cycle table session asked ≡ deadlock_cycle state session asked }
 {}
 
-/// A grant leaves the locks that were held and those that were asked for, though one that was held already is kept once.
+/// A grant leaves the locks that were held and those that were asked for, though one that was held already is kept
+/// once.
 pub fn grant_adds_what_is_asked()
     ensures { (entry : LockEntry) → (asked : Items Lock) → HaveSame (granted asked entry).held (entry.held ++ asked) }
 {}

@@ -25,9 +25,9 @@ pub enum Asked {
 }
 
 /// The locks that sessions hold and wait for, after the table-level locks of the Amazon Redshift guide. Contracts see a
-/// table with an entry for each session, the background worker's, session 0, first: the locks that it holds in the order
-/// of granting, those that it waits for, and what it was before its last granted request, where that was the last thing
-/// that changed it.
+/// table with an entry for each session, the background worker's, session 0, first: the locks that it holds in the
+/// order of granting, those that it waits for, and what it was before its last granted request, where that was the last
+/// thing that changed it.
 #[derive(Debug, Drop)]
 pub struct Locks {
     entries: Vec<Entry>,
@@ -78,13 +78,14 @@ impl Locks {
         self.entries[session as usize].can_withdraw()
     }
 
-    /// A session asks for these locks, all together. Its own locks are in nobody's way but the others'. Where nobody
-    /// blocks it, it holds them after those that it held, and waits no more; where its wait would close a cycle, nothing
-    /// changes; else it waits for them, in place of what it waited for. Where memory runs out, nothing changes.
+    /// A session asks for these locks, all together. Its own locks never block it. Where no other's do, it holds them
+    /// after those that it held, each that it held already once, and waits no more; where its wait would close a cycle,
+    /// nothing changes; else it waits for them, in place of what it waited for. Where memory runs out, nothing changes.
     pub fn request(&mut self, session: u32, wants: &List<Want>) -> Result<Asked, AllocError>
         requires { session < length self.old }
         ensures answer { IfOk result (λ asked. asked ≡ answer_to self.old session wants.now) }
-        ensures table { OnOk result (self.new ≡ table_after self.old session wants.now (answer_to self.old session wants.now)) }
+        ensures table { OnOk result
+            (self.new ≡ table_after self.old session wants.now (answer_to self.old session wants.now)) }
         ensures err { OnErr result (self.new ≡ self.old) }
     {
         let alloc = *self.entries.allocator();
