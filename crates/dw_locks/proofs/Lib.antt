@@ -4,3 +4,4 @@ pub mod SearchLemmas
 pub mod TableLemmas
 pub mod Standing
 pub mod HeldOnce
+pub mod CycleLemmas

@@ -76,7 +76,7 @@ same_itself : (n : ℕ) → (n == n) ≡ true
 same_itself n = search (rules, tests)
 
 -- each of these does
-abbrev Each : {A : Type 0} → (A → Type 0) → List A → Type 0
+abbrev pub Each : {A : Type 0} → (A → Type 0) → List A → Type 0
 Each P [] = Unit {0}
 Each P (one ∷ ones) = P one × Each P ones
 
@@ -141,7 +141,7 @@ module _ (next : ℕ → List ℕ) (session : ℕ) where
       some_kept from (first_of (first_walk next session steps) (next from)) ∙ some_over steps (is_reached steps) (next from)
 
   -- a walk of so many steps from here
-  data IsWalk : ℕ → ℕ → List ℕ → Type 0 where
+  pub data IsWalk : ℕ → ℕ → List ℕ → Type 0 where
     here : {from : ℕ} → IsWalk zero from (from ∷ [])
     step : {steps from one : ℕ} {walk : List ℕ} → contains (next from) one ≡ true → IsWalk steps one walk → IsWalk (suc steps) from (from ∷ walk)
 
@@ -204,7 +204,7 @@ module _ (next : ℕ → List ℕ) (session : ℕ) where
       (each_weaken (IsWalk steps one) (λ walk. IsWalk (suc steps) from (from ∷ walk)) (λ walk is. step (among one (or_left (one == one) (contains ones one) (same_itself one))) is) (walks next steps one) (each one))
       (each_over steps from each ones (λ other there. among other (or_right (one == other) (contains ones other) there)))
 
-  each_walk : (steps from : ℕ) → Each (IsWalk steps from) (walks next steps from)
+  pub each_walk : (steps from : ℕ) → Each (IsWalk steps from) (walks next steps from)
   each_walk zero from = (here, tt)
   each_walk (suc steps) from =
       each_map (λ walk. IsWalk (suc steps) from (from ∷ walk)) (IsWalk (suc steps) from) (λ walk. from ∷ walk) (λ walk is. is)

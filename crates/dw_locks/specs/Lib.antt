@@ -2,3 +2,4 @@ pub mod Walks
 pub mod LockTable
 pub mod Grants
 pub mod Requests
+pub mod Cycles

@@ -1,7 +1,8 @@
 //! Laws of tables of locks: calls that do nothing, whose contracts speak of every table.
-ghost use Rattle.std.specs.Prelude.{◌≡◌, ◌++◌, ℕ, List as Items};
+ghost use Rattle.std.specs.Prelude.{◌≡◌, ◌++◌, ◌+◌, ◌≤◌, ℕ, List as Items, length, None, Some};
 ghost use Rattle.dw_journal.specs.declared.locks.Want.{Want as Lock};
-ghost use Rattle.dw_journal.specs.Locks.{LockState, blockers, deadlock_cycle};
+ghost use Rattle.dw_journal.specs.Locks.{LockState, blockers, deadlock_cycle, would_wait_for};
+ghost use Rattle.dw_locks.specs.Cycles.{IsCycle};
 ghost use Rattle.dw_locks.specs.LockTable.{HaveSame, LockEntry, LockTable, StandsForLocks, granted, table_blockers, table_cycle};
 
 /// Where a table stands for the locks that the events of a journal tell of, it gives what those give: who blocks a
@@ -17,4 +18,18 @@ pub fn table_answers_as_events_do()
 /// once.
 pub fn grant_adds_what_is_asked()
     ensures { (entry : LockEntry) → (asked : Items Lock) → HaveSame (granted asked entry).held (entry.held ++ asked) }
+{}
+
+/// The cycle with which a deadlock is refused is one: different sessions, of which the refused one is the first; each would
+/// wait for the next, and the last for the first. There is no shorter one; and where none is given, there is none among so
+/// many sessions as there are.
+pub fn deadlocks_are_shortest_cycles()
+    ensures cycle { (state : LockState) (session : ℕ) (asked : Items Lock) (cycle : Items ℕ) →
+        deadlock_cycle state session asked ≡ Some cycle → IsCycle (would_wait_for state session asked) session cycle }
+    ensures shortest { (state : LockState) (session : ℕ) (asked : Items Lock) (cycle other : Items ℕ) →
+        deadlock_cycle state session asked ≡ Some cycle → IsCycle (would_wait_for state session asked) session other →
+        length cycle ≤ length other }
+    ensures none { (state : LockState) (session : ℕ) (asked : Items Lock) (other : Items ℕ) →
+        deadlock_cycle state session asked ≡ None → IsCycle (would_wait_for state session asked) session other →
+        length other ≤ state.sessions + 1 → ⊥ }
 {}

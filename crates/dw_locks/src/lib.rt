@@ -8,7 +8,9 @@ mod laws;
 mod locks;
 
 pub use dw_journal::{Mode, Want};
-pub use laws::{grant_adds_what_is_asked, table_answers_as_events_do};
+pub use laws::{
+    deadlocks_are_shortest_cycles, grant_adds_what_is_asked, table_answers_as_events_do,
+};
 pub use locks::{Asked, Locks};
 
 #[cfg(test)]
