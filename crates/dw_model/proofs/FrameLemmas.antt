@@ -5,18 +5,23 @@ use Rattle.dw_value.specs.declared.values.Row.{Row}
 use Rattle.dw_value.specs.Values.{row_cmp}
 use Rattle.dw_value.specs.Sorted.{add_sorted}
 use Rattle.dw_model.specs.declared.changes.Change.{Change}
-use Rattle.dw_model.specs.declared.changes.Change.TheVariants.{Unchanged, Creates, Alters}
+use Rattle.dw_model.specs.declared.changes.Change.TheVariants.{Unchanged, Creates, Drops, Alters}
 use Rattle.dw_model.specs.declared.objects.Object.{Object}
 use Rattle.dw_model.specs.declared.objects.Object.TheVariants.{Def, Rows}
 use Rattle.dw_model.specs.declared.refusals.Refusal.{Refusal}
+use Rattle.dw_model.specs.declared.statements.Literal.{Literal}
 use Rattle.dw_model.specs.declared.statements.Query.{Query}
 use Rattle.dw_model.specs.declared.statements.Statement.{Statement}
-use Rattle.dw_model.specs.declared.statements.Statement.TheVariants.{Begin, Commit, Rollback, Vacuum, Create, Insert, Select}
+use Rattle.dw_model.specs.declared.statements.Statement.TheVariants.{Begin, Commit, Rollback, Vacuum, Create, Drop, Insert, Select}
+use Rattle.dw_model.specs.declared.tables.Column.{Column}
 use Rattle.dw_model.specs.declared.tables.TableDef.{TableDef}
-use Rattle.dw_model.specs.Alone.{admitted_rows, change_in, change_of, insert_outcome, next_of, outcome_of, outcome_on, reply_in, reply_of}
-use Rattle.dw_model.specs.Binding as b
-use Rattle.dw_model.specs.Binding.{BoundStatement, same_name, create_refusal, def_made, rows_refusal, columns_refusal, bound, bound_insert, bound_query}
+use Rattle.dw_model.specs.Alone.{added_outcome, change_in, change_of, insert_outcome, next_of, outcome_of, outcome_on, reply_in, reply_of}
+use Rattle.dw_model.specs.Binding.{same_name, columns_refusal}
+use Rattle.dw_model.specs.Bound as b
+use Rattle.dw_model.specs.Bound.{BoundStatement, bound, bound_drop, bound_insert, bound_query}
 use Rattle.dw_model.specs.Changes.{def_by, rows_by, rows_changed, added_to}
+use Rattle.dw_model.specs.Creating.{create_refusal, def_made}
+use Rattle.dw_model.specs.Inserting.{insert_refusal, names_given, null_column, rows_made}
 use Rattle.dw_model.specs.Databases.{Tables, AllAscending, IsAscending, def_of, rows_of}
 use Rattle.dw_model.specs.Files.{Files}
 use Rattle.dw_model.specs.Objects.{reads_of, writes_of, is_among, SameAt, SameAtAll}
@@ -32,10 +37,16 @@ module _ (files : Files) where
   unless_alike None statement f g e = e
   unless_alike (Some refusal) statement f g e = refl
 
-  insert_alike : (table : List ℕ) (rows : List Row) (def : Option TableDef) (f g : List ℕ → List Row)
-      → after_result (outcome_of files f) (bound_insert table rows def) ≡ after_result (outcome_of files g) (bound_insert table rows def)
-  insert_alike table rows None f g = refl
-  insert_alike table rows (Some def) f g = unless_alike (rows_refusal def.columns rows) (b.Insert table def.columns rows) f g refl
+  drop_alike : (table : List ℕ) (def : Option TableDef) (f g : List ℕ → List Row)
+      → after_result (outcome_of files f) (bound_drop table def) ≡ after_result (outcome_of files g) (bound_drop table def)
+  drop_alike table None f g = refl
+  drop_alike table (Some def) f g = refl
+
+  insert_alike : (table : List ℕ) (listed : List (List ℕ)) (tuples : List (List Literal)) (def : Option TableDef) (f g : List ℕ → List Row)
+      → after_result (outcome_of files f) (bound_insert table listed tuples def) ≡ after_result (outcome_of files g) (bound_insert table listed tuples def)
+  insert_alike table listed tuples None f g = refl
+  insert_alike table listed tuples (Some def) f g =
+      unless_alike (insert_refusal def.columns listed tuples) (b.Insert table def.columns (names_given def.columns listed) tuples) f g refl
 
   select_alike : (query : Query) (def : Option TableDef) (f g : List ℕ → List Row) → f query.table ≡ g query.table
       → after_result (outcome_of files f) (bound_query query def) ≡ after_result (outcome_of files g) (bound_query query def)
@@ -53,9 +64,12 @@ module _ (files : Files) where
   outcome_framed (Create spec) x y same =
       ap (λ def. after_result (outcome_of files (rows_of x)) (unless_refused (create_refusal spec def) (Ok (b.Create spec.name (def_made spec))))) same.0
       ∙ unless_alike (create_refusal spec (def_of y spec.name)) (b.Create spec.name (def_made spec)) (rows_of x) (rows_of y) refl
-  outcome_framed (Insert table rows) x y same =
-      ap (λ def. after_result (outcome_of files (rows_of x)) (bound_insert table rows def)) same.0
-      ∙ insert_alike table rows (def_of y table) (rows_of x) (rows_of y)
+  outcome_framed (Drop table) x y same =
+      ap (λ def. after_result (outcome_of files (rows_of x)) (bound_drop table def)) same.0
+      ∙ drop_alike table (def_of y table) (rows_of x) (rows_of y)
+  outcome_framed (Insert table listed tuples) x y same =
+      ap (λ def. after_result (outcome_of files (rows_of x)) (bound_insert table listed tuples def)) same.0
+      ∙ insert_alike table listed tuples (def_of y table) (rows_of x) (rows_of y)
   outcome_framed (Select query) x y same =
       ap (λ def. after_result (outcome_of files (rows_of x)) (bound_query query def)) same.0
       ∙ select_alike query (def_of y query.table) (rows_of x) (rows_of y) same.1.0
@@ -72,17 +86,28 @@ module _ (files : Files) where
   of_unless P None rows statement none some = some
   of_unless P (Some refusal) rows statement none some = none
 
-  of_admitted : (P : Change → Type 0) (table : List ℕ) (count : ℕ) (admitted : Option (List Row)) → P Unchanged → ((added : List Row) → P (Alters table [] added))
-      → P (change_in (insert_outcome table count admitted))
-  of_admitted P table count None none some = none
-  of_admitted P table count (Some added) none some = some added
+  of_added : (P : Change → Type 0) (table : List ℕ) (added : List Row) (null : Option (List ℕ)) → P Unchanged → P (Alters table [] added)
+      → P (change_in (added_outcome table added null))
+  of_added P table added None none some = some
+  of_added P table added (Some column) none some = none
 
-  of_insert : (P : Change → Type 0) (table : List ℕ) (new : List Row) (def : Option TableDef) (rows : List ℕ → List Row) → P Unchanged → (is_some def ≡ true → (added : List Row) → P (Alters table [] added))
-      → P (change_in (after_result (outcome_of files rows) (bound_insert table new def)))
-  of_insert P table new None rows none some = none
-  of_insert P table new (Some def) rows none some =
-      of_unless P (rows_refusal def.columns new) rows (b.Insert table def.columns new) none
-      (of_admitted P table (length new) (admitted_rows def.columns new) none (some refl))
+  of_made : (P : Change → Type 0) (table : List ℕ) (columns : List Column) (made : Option (List Row)) → P Unchanged → ((added : List Row) → P (Alters table [] added))
+      → P (change_in (insert_outcome table columns made))
+  of_made P table columns None none some = none
+  of_made P table columns (Some added) none some = of_added P table added (null_column columns added) none (some added)
+
+  of_insert : (P : Change → Type 0) (table : List ℕ) (listed : List (List ℕ)) (tuples : List (List Literal)) (def : Option TableDef) (rows : List ℕ → List Row) → P Unchanged
+      → (is_some def ≡ true → (added : List Row) → P (Alters table [] added))
+      → P (change_in (after_result (outcome_of files rows) (bound_insert table listed tuples def)))
+  of_insert P table listed tuples None rows none some = none
+  of_insert P table listed tuples (Some def) rows none some =
+      of_unless P (insert_refusal def.columns listed tuples) rows (b.Insert table def.columns (names_given def.columns listed) tuples) none
+      (of_made P table def.columns (rows_made def.columns (names_given def.columns listed) tuples) none (some refl))
+
+  of_drop : (P : Change → Type 0) (table : List ℕ) (def : Option TableDef) (rows : List ℕ → List Row) → P Unchanged → P (Drops table)
+      → P (change_in (after_result (outcome_of files rows) (bound_drop table def)))
+  of_drop P table None rows none some = none
+  of_drop P table (Some def) rows none some = some
 
   of_select : (P : Change → Type 0) (query : Query) (def : Option TableDef) (rows : List ℕ → List Row) → P Unchanged
       → P (change_in (after_result (outcome_of files rows) (bound_query query def)))
@@ -102,8 +127,9 @@ module _ (files : Files) where
   has_table (Vacuum table) tables = tt
   has_table (Create spec) tables =
       of_create (λ change. HasTable change tables) spec.name (def_made spec) (create_refusal spec (def_of tables spec.name)) (rows_of tables) tt tt
-  has_table (Insert table rows) tables =
-      of_insert (λ change. HasTable change tables) table rows (def_of tables table) (rows_of tables) tt (λ there added. there)
+  has_table (Drop table) tables = of_drop (λ change. HasTable change tables) table (def_of tables table) (rows_of tables) tt tt
+  has_table (Insert table listed tuples) tables =
+      of_insert (λ change. HasTable change tables) table listed tuples (def_of tables table) (rows_of tables) tt (λ there added. there)
   has_table (Select query) tables = of_select (λ change. HasTable change tables) query (def_of tables query.table) (rows_of tables) tt
 
   pub def_of-next : (statement : Statement) (tables : Tables) (name : List ℕ)
@@ -153,6 +179,10 @@ module _ (files : Files) where
   keeps_created (Def q) name def other = λ before. keeps_else (same_name q name) (Some def) before other
   keeps_created (Rows q) name def other = λ before. keeps_else (same_name q name) [] before other
 
+  keeps_dropped : (object : Object) (name : List ℕ) → is_among object (Def name ∷ Rows name ∷ []) ≡ false → Keeps object (Drops name)
+  keeps_dropped (Def q) name other = λ before. keeps_else (same_name q name) None before other
+  keeps_dropped (Rows q) name other = λ before. keeps_else (same_name q name) [] before other
+
   keeps_altered : (object : Object) (name : List ℕ) (gone added : List Row) → is_among object (Rows name ∷ []) ≡ false → Keeps object (Alters name gone added)
   keeps_altered (Def q) name gone added other = λ before. refl
   keeps_altered (Rows q) name gone added other = λ before. keeps_else (same_name q name) (rows_changed gone added before) before other
@@ -165,8 +195,10 @@ module _ (files : Files) where
   change_keeps (Vacuum table) tables object other = keeps_all object
   change_keeps (Create spec) tables object other =
       of_create (Keeps object) spec.name (def_made spec) (create_refusal spec (def_of tables spec.name)) (rows_of tables) (keeps_all object) (keeps_created object spec.name (def_made spec) other)
-  change_keeps (Insert table rows) tables object other =
-      of_insert (Keeps object) table rows (def_of tables table) (rows_of tables) (keeps_all object) (λ there added. keeps_altered object table [] added other)
+  change_keeps (Drop table) tables object other =
+      of_drop (Keeps object) table (def_of tables table) (rows_of tables) (keeps_all object) (keeps_dropped object table other)
+  change_keeps (Insert table listed tuples) tables object other =
+      of_insert (Keeps object) table listed tuples (def_of tables table) (rows_of tables) (keeps_all object) (λ there added. keeps_altered object table [] added other)
   change_keeps (Select query) tables object other = of_select (Keeps object) query (def_of tables query.table) (rows_of tables) (keeps_all object)
 
   pub unwritten_framed : (statement : Statement) (tables : Tables) (object : Object) → is_among object (writes_of statement) ≡ false → SameAt tables (next_of files statement tables) object
@@ -193,8 +225,10 @@ module _ (files : Files) where
   change_adds (Create spec) tables name unread =
       of_create (OnlyAdds name) spec.name (def_made spec) (create_refusal spec (def_of tables spec.name)) (rows_of tables) (λ before. refl)
       (λ before. sym (keeps_else (same_name name spec.name) [] before unread))
-  change_adds (Insert table rows) tables name unread =
-      of_insert (OnlyAdds name) table rows (def_of tables table) (rows_of tables) (λ before. refl) (λ there added before. adds_either (same_name name table) added before)
+  change_adds (Drop table) tables name unread =
+      of_drop (OnlyAdds name) table (def_of tables table) (rows_of tables) (λ before. refl) (λ before. sym (keeps_else (same_name name table) [] before unread))
+  change_adds (Insert table listed tuples) tables name unread =
+      of_insert (OnlyAdds name) table listed tuples (def_of tables table) (rows_of tables) (λ before. refl) (λ there added before. adds_either (same_name name table) added before)
   change_adds (Select query) tables name unread = of_select (OnlyAdds name) query (def_of tables query.table) (rows_of tables) (λ before. refl)
 
   pub unread_rows_framed : (statement : Statement) (tables : Tables) (name : List ℕ) → is_among (Rows name) (reads_of statement) ≡ false

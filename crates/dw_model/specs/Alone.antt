@@ -1,16 +1,9 @@
 -- A statement run alone on a database: its answer with the next database, or its refusal. Its names and kinds are
 -- bound to the definitions alone, and what is bound is carried out on the rows and the files alone.
 use Rattle.std.specs.Prelude.{ℕ, List, [], ◌∷◌, map, length, Option, Some, None, Result, Ok, Err}
-use Rattle.dw_value.specs.declared.kinds.Kind.{Kind}
-use Rattle.dw_value.specs.declared.kinds.Kind.TheVariants as kinds
-use Rattle.dw_value.specs.declared.kinds.Misfit.{Misfit}
-use Rattle.dw_value.specs.declared.values.Value.{Value}
-use Rattle.dw_value.specs.declared.values.Value.TheVariants.{Number, Words, Day, Truth, Null}
 use Rattle.dw_value.specs.declared.values.Row.{Row}
-use Rattle.dw_value.specs.Kinds.{literal_kind}
-use Rattle.dw_value.specs.Assignment.{admitted}
 use Rattle.dw_model.specs.declared.refusals.Refusal.{Refusal}
-use Rattle.dw_model.specs.declared.refusals.Refusal.TheVariants.{Range}
+use Rattle.dw_model.specs.declared.refusals.Refusal.TheVariants.{Range, NullIn}
 use Rattle.dw_model.specs.declared.statements.Statement.{Statement}
 use Rattle.dw_model.specs.declared.statements.Query.{Query}
 use Rattle.dw_model.specs.declared.tables.Column.{Column}
@@ -21,70 +14,50 @@ use Rattle.dw_model.specs.declared.answers.Answer.TheVariants as answers
 use Rattle.dw_model.specs.declared.answers.Plain.{Plain}
 use Rattle.dw_model.specs.declared.answers.Plain.TheVariants.{Done, Refused}
 use Rattle.dw_model.specs.declared.changes.Change.{Change}
-use Rattle.dw_model.specs.declared.changes.Change.TheVariants.{Unchanged, Creates, Alters}
+use Rattle.dw_model.specs.declared.changes.Change.TheVariants.{Unchanged, Creates, Drops, Alters}
 use Rattle.dw_model.specs.declared.changes.Outcome.{Outcome}
-use Rattle.dw_model.specs.Binding.{BoundStatement, Create, Insert, Select, bound}
+use Rattle.dw_model.specs.Bound.{BoundStatement, Create, Drop, Insert, Select, bound}
 use Rattle.dw_model.specs.Changes.{changed}
 use Rattle.dw_model.specs.Databases.{Tables, def_of, rows_of}
 use Rattle.dw_model.specs.Files.{Files}
 use Rattle.dw_model.specs.Refusals.{after_result}
-use Rattle.dw_model.specs.Selection.{selected, fields_of}
-
--- a value in front of the others, where all of them fit
-abbrev pub with_value : Result Value Misfit → Option (List Value) → Option (List Value)
-with_value (Err misfit) values = None
-with_value (Ok value) None = None
-with_value (Ok value) (Some values) = Some (value ∷ values)
-
--- the kind of a literal: a number's by its size, where literals are whole so far, the longest text, a date or a truth;
--- NULL is an INTEGER where nothing else decides
-abbrev pub kind_of_literal : Value → Kind
-kind_of_literal (Number n) = literal_kind n 0
-kind_of_literal (Words text) = kinds.Varchar 65535
-kind_of_literal (Day n) = kinds.Date
-kind_of_literal (Truth b) = kinds.Bool
-kind_of_literal Null = kinds.Int
-
--- each literal as its column holds it; none where one of them doesn't fit
-abbrev pub admitted_values : List Column → List Value → Option (List Value)
-admitted_values [] values = Some []
-admitted_values (column ∷ columns) [] = Some []
-admitted_values (column ∷ columns) (value ∷ values) =
-    with_value (admitted column.kind value (kind_of_literal value)) (admitted_values columns values)
-
--- a row in front of the others, where all of them fit
-abbrev pub with_row : Option (List Value) → Option (List Row) → Option (List Row)
-with_row None rows = None
-with_row (Some values) None = None
-with_row (Some values) (Some rows) = Some (record { values = values } ∷ rows)
-
--- each row as a table of these columns holds it; none where a value of one doesn't fit
-abbrev pub admitted_rows : List Column → List Row → Option (List Row)
-admitted_rows columns [] = Some []
-admitted_rows columns (row ∷ rows) = with_row (admitted_values columns row.values) (admitted_rows columns rows)
+use Rattle.dw_model.specs.Inserting.{rows_made, null_column}
+use Rattle.dw_model.specs.Selection.{selected, fields_of, kinds_of}
 
 -- what CREATE TABLE comes to: a table of this definition is made
 abbrev pub create_outcome : List ℕ → TableDef → Outcome
 create_outcome table def = record { answer = answers.Plain words.CreateTable; change = Creates table def }
 
--- what INSERT of so many rows comes to, where these are the rows as the table holds them, if all of them fit: they are
--- added in order
-abbrev pub insert_outcome : List ℕ → ℕ → Option (List Row) → Result Outcome Refusal
-insert_outcome table count None = Err Range
-insert_outcome table count (Some rows) =
-    Ok (record { answer = answers.Count words.Insert count; change = Alters table [] rows })
+-- what DROP TABLE comes to: the table goes
+abbrev pub drop_outcome : List ℕ → Outcome
+drop_outcome table = record { answer = answers.Plain words.DropTable; change = Drops table }
+
+-- what INSERT of these rows comes to, where this column, if there is one, would hold NULL and takes none: they are added
+-- in order
+abbrev pub added_outcome : List ℕ → List Row → Option (List ℕ) → Result Outcome Refusal
+added_outcome table rows None =
+    Ok (record { answer = answers.Count words.Insert (length rows); change = Alters table [] rows })
+added_outcome table rows (Some column) = Err (NullIn column)
+
+-- what INSERT comes to, where these are the rows as the table holds them, if all of them fit
+abbrev pub insert_outcome : List ℕ → List Column → Option (List Row) → Result Outcome Refusal
+insert_outcome table columns None = Err Range
+insert_outcome table columns (Some rows) = added_outcome table rows (null_column columns rows)
 
 -- what SELECT from a table with these columns and rows comes to: the answer alone
 abbrev pub select_outcome : List Column → Query → List Row → Outcome
 select_outcome columns query rows = record {
-  answer = answers.Rows words.Select query.items (map fields_of (selected query columns rows));
+  answer =
+      answers.Rows words.Select query.items (map (fields_of (kinds_of columns query.items)) (selected query columns rows));
   change = Unchanged;
 }
 
 -- What a bound statement comes to, where `rows` gives the rows of each table. Nothing else of a database is looked at.
 abbrev pub outcome_of : Files → (List ℕ → List Row) → BoundStatement → Result Outcome Refusal
 outcome_of files rows (Create table def) = Ok (create_outcome table def)
-outcome_of files rows (Insert table columns new) = insert_outcome table (length new) (admitted_rows columns new)
+outcome_of files rows (Drop table) = Ok (drop_outcome table)
+outcome_of files rows (Insert table columns names tuples) =
+    insert_outcome table columns (rows_made columns names tuples)
 outcome_of files rows (Select columns query) = Ok (select_outcome columns query (rows query.table))
 
 -- what a statement comes to on a database: its answer and its change, or its refusal

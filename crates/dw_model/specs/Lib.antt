@@ -2,7 +2,11 @@ pub mod Refusals
 pub mod Databases
 pub mod Entries
 pub mod Files
+pub mod Literals
 pub mod Binding
+pub mod Creating
+pub mod Inserting
+pub mod Bound
 pub mod Selection
 pub mod Changes
 pub mod Alone

@@ -3,7 +3,7 @@ use Rattle.std.specs.Prelude.{â„•, nat_lt, List, length, Option, Some, None, ifâ
 use Rattle.dw_model.specs.declared.refusals.Refusal.{Refusal}
 use Rattle.dw_model.specs.declared.refusals.Refusal.TheVariants.{Limit}
 use Rattle.dw_model.specs.declared.statements.Statement.{Statement}
-use Rattle.dw_model.specs.declared.statements.Statement.TheVariants.{Begin, Commit, Rollback, Vacuum, Create, Insert, Select}
+use Rattle.dw_model.specs.declared.statements.Statement.TheVariants.{Begin, Commit, Rollback, Vacuum, Create, Drop, Insert, Select}
 use Rattle.dw_model.specs.Databases.{Tables, rows_of}
 
 -- the table whose rows a statement writes
@@ -13,7 +13,8 @@ written_table Commit = None
 written_table Rollback = None
 written_table (Vacuum table) = None
 written_table (Create spec) = Some spec.name
-written_table (Insert table rows) = Some table
+written_table (Drop table) = Some table
+written_table (Insert table columns rows) = Some table
 written_table (Select query) = None
 
 -- so many rows in a table are refused where they are too many: more than 4,194,304

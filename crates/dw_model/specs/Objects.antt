@@ -5,7 +5,7 @@ use Rattle.std.specs.Cmp.Lexicographic.{slice_cmp}
 use Rattle.std.specs.List.{list_any}
 use Rattle.std.specs.Ordering.{nat_cmp, is_lt}
 use Rattle.dw_model.specs.declared.statements.Statement.{Statement}
-use Rattle.dw_model.specs.declared.statements.Statement.TheVariants.{Begin, Commit, Rollback, Vacuum, Create, Insert, Select}
+use Rattle.dw_model.specs.declared.statements.Statement.TheVariants.{Begin, Commit, Rollback, Vacuum, Create, Drop, Insert, Select}
 use Rattle.dw_model.specs.declared.objects.Object.{Object}
 use Rattle.dw_model.specs.declared.objects.Object.TheVariants.{Def, Rows}
 use Rattle.dw_model.specs.Databases.{Tables, def_of, rows_of}
@@ -18,7 +18,8 @@ reads_of Commit = []
 reads_of Rollback = []
 reads_of (Vacuum table) = []
 reads_of (Create spec) = Def spec.name ∷ Rows spec.name ∷ []
-reads_of (Insert table rows) = Def table ∷ []
+reads_of (Drop table) = Def table ∷ Rows table ∷ []
+reads_of (Insert table columns rows) = Def table ∷ []
 reads_of (Select query) = Def query.table ∷ Rows query.table ∷ []
 
 -- the objects that a statement writes
@@ -28,7 +29,8 @@ writes_of Commit = []
 writes_of Rollback = []
 writes_of (Vacuum table) = []
 writes_of (Create spec) = Def spec.name ∷ Rows spec.name ∷ []
-writes_of (Insert table rows) = Rows table ∷ []
+writes_of (Drop table) = Def table ∷ Rows table ∷ []
+writes_of (Insert table columns rows) = Rows table ∷ []
 writes_of (Select query) = []
 
 -- two objects are the same

@@ -1,7 +1,7 @@
 -- The refusals of statements, by number and text. The numbers and texts are this project's own.
 use Rattle.std.specs.Prelude.{ℕ, Option, Some, None, Result, Ok, Err}
 use Rattle.dw_model.specs.declared.refusals.Refusal.{Refusal}
-use Rattle.dw_model.specs.declared.refusals.Refusal.TheVariants.{Syntax, Unknown, Exists, Clash, Range, Deadlock, Aborted, InBlock, Vacuuming, Limit, Memory}
+use Rattle.dw_model.specs.declared.refusals.Refusal.TheVariants.{Syntax, Unknown, Exists, Clash, Range, NullIn, Deadlock, Aborted, InBlock, Vacuuming, Limit, Memory}
 
 -- the number that a report prints before a refusal's text
 abbrev pub number_of : Refusal → ℕ
@@ -10,6 +10,7 @@ number_of (Unknown name) = 2
 number_of (Exists name) = 3
 number_of Clash = 4
 number_of Range = 5
+number_of (NullIn column) = 7
 number_of (Deadlock cycle) = 10
 number_of Aborted = 11
 number_of InBlock = 12

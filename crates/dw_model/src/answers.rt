@@ -14,6 +14,8 @@ pub enum Word {
     Rollback,
     /// CREATE TABLE.
     CreateTable,
+    /// DROP TABLE.
+    DropTable,
     /// INSERT.
     Insert,
     /// SELECT.

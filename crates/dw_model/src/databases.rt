@@ -232,7 +232,7 @@ mod tests {
     use super::{Database, Table};
     use crate::changes::Change;
     use crate::tables::{Column, TableDef};
-    use dw_value::{Kind, List, Row, Text, Value};
+    use dw_value::{Encoding, Kind, List, Row, Style, Text, Value};
     use std::alloc::{AllocError, Global};
     use std::test::Fail;
 
@@ -241,8 +241,18 @@ mod tests {
         columns.push(Column {
             name: Text::from_str(alloc, column)?,
             kind: Kind::Int,
+            not_null: true,
+            default: Value::Number(7),
+            encoding: Encoding::Delta,
         })?;
-        Ok(TableDef { columns })
+        let mut sort = List::new(alloc);
+        sort.push(0)?;
+        Ok(TableDef {
+            name: Text::from_str(alloc, "t")?,
+            columns,
+            style: Style::Key { column: 0 },
+            sort,
+        })
     }
 
     #[test]

@@ -23,5 +23,5 @@ pub use laws::{next_applies_the_change, rows_stay_ascending, statements_have_a_f
 pub use limits::{MAX_ROWS, limit_refusal};
 pub use objects::{Object, add_objects};
 pub use refusals::Refusal;
-pub use statements::{ColumnSpec, Query, Statement, TableSpec, Test};
+pub use statements::{ColumnSpec, Literal, Query, Statement, StyleWord, TableSpec, Test};
 pub use tables::{Column, Table, TableDef};

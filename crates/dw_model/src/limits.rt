@@ -17,7 +17,7 @@ fn written_table(statement: &Statement) -> Option<&Text>
 {
     match statement {
         Statement::Create { spec } => Some(&spec.name),
-        Statement::Insert { table, .. } => Some(table),
+        Statement::Drop { table } | Statement::Insert { table, .. } => Some(table),
         Statement::Begin
         | Statement::Commit
         | Statement::Rollback

@@ -123,6 +123,7 @@ impl Statement {
             Statement::Begin | Statement::Commit | Statement::Rollback | Statement::Vacuum { .. } =>
                 Ok(List::new(alloc)),
             Statement::Create { spec } => both(alloc, &spec.name),
+            Statement::Drop { table } => both(alloc, table),
             Statement::Insert { table, .. } => only(alloc, Object::Def(table.copy()?)),
             Statement::Select { query } => both(alloc, &query.table),
         }
@@ -134,6 +135,7 @@ impl Statement {
     {
         match self {
             Statement::Create { spec } => both(alloc, &spec.name),
+            Statement::Drop { table } => both(alloc, table),
             Statement::Insert { table, .. } => only(alloc, Object::Rows(table.copy()?)),
             Statement::Begin
             | Statement::Commit
@@ -166,7 +168,7 @@ fn both(alloc: Global, name: &Text) -> Result<List<Object>, AllocError>
 mod tests {
     use super::{Object, add_objects};
     use crate::statements::{ColumnSpec, Statement, TableSpec};
-    use dw_value::{List, Text};
+    use dw_value::{Kind, List, Text};
     use std::alloc::{AllocError, Global};
     use std::test::Fail;
 
@@ -216,16 +218,22 @@ mod tests {
     #[test]
     fn statements_read_and_write(rt: HostRuntime) -> Result<(), Fail> {
         let alloc = rt.alloc();
-        let columns: List<ColumnSpec> = List::new(alloc);
-        let name = Text::from_str(alloc, "t")?;
-        let create = Statement::Create {
-            spec: TableSpec { name, columns },
+        let mut columns = List::new(alloc);
+        columns.push(ColumnSpec::new(Text::from_str(alloc, "x")?, Kind::Int))?;
+        let spec = TableSpec::new(Text::from_str(alloc, "t")?, columns);
+        assert_eq!(rt; spec.columns.len(), 1);
+        assert!(rt; spec.named.is_empty() && spec.style.is_none());
+        let dropped = Statement::Drop {
+            table: Text::from_str(alloc, "t")?,
         };
-        let table = Text::from_str(alloc, "t")?;
-        let rows = List::new(alloc);
-        let insert = Statement::Insert { table, rows };
+        let insert = Statement::Insert {
+            table: Text::from_str(alloc, "t")?,
+            columns: List::new(alloc),
+            rows: List::new(alloc),
+        };
         for (statement, reads, writes) in [
-            (create, " d t r t", " d t r t"),
+            (Statement::Create { spec }, " d t r t", " d t r t"),
+            (dropped, " d t r t", " d t r t"),
             (insert, " d t", " r t"),
             (Statement::Begin, "", ""),
         ] {

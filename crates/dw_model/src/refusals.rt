@@ -19,6 +19,8 @@ pub enum Refusal {
     Clash,
     /// Number 5: a value that its column can't hold.
     Range,
+    /// Number 7: a column that takes no NULL would hold one.
+    NullIn { column: Text },
     /// Number 10: the statement would wait for sessions that wait for it. `cycle` begins with its session; each of
     /// these waits for the next, and the last for the first.
     Deadlock { cycle: List<u32> },
@@ -37,7 +39,7 @@ pub enum Refusal {
 impl Refusal {
     ghost use Rattle.dw_model.specs.Refusals.{number_of};
 
-    /// The refusal's number: 1 to 5, 10 to 14, or 16.
+    /// The refusal's number: 1 to 5, 7, 10 to 14, or 16.
     pub fn number(&self) -> u8
         ensures { result ≡ number_of self.now }
     {
@@ -47,6 +49,7 @@ impl Refusal {
             Refusal::Exists { .. } => 3,
             Refusal::Clash => 4,
             Refusal::Range => 5,
+            Refusal::NullIn { .. } => 7,
             Refusal::Deadlock { .. } => 10,
             Refusal::Aborted => 11,
             Refusal::InBlock => 12,
@@ -66,6 +69,9 @@ impl Refusal {
             Refusal::Exists { name } => Ok(Refusal::Exists { name: name.copy()? }),
             Refusal::Clash => Ok(Refusal::Clash),
             Refusal::Range => Ok(Refusal::Range),
+            Refusal::NullIn { column } => Ok(Refusal::NullIn {
+                column: column.copy()?,
+            }),
             Refusal::Deadlock { cycle } => Ok(Refusal::Deadlock {
                 cycle: cycle.copy()?,
             }),
@@ -98,6 +104,12 @@ mod tests {
         }
         for (refusal, number) in [
             (Refusal::Clash, 4),
+            (
+                Refusal::NullIn {
+                    column: Text::new(rt.alloc()),
+                },
+                7,
+            ),
             (Refusal::Vacuuming { session: 2 }, 13),
             (Refusal::Memory, 16),
         ] {

@@ -4,7 +4,7 @@ ghost use Rattle.std.specs.Option.{option_map_or};
 ghost use Rattle.dw_model.specs.Changes.{same_row, table_changed, without_row, without_rows};
 ghost use Rattle.dw_model.specs.Databases.{IsAscending};
 
-use dw_value::{Copied, Kind, List, Row, Text, add_rows};
+use dw_value::{Copied, Encoding, Kind, List, Row, Style, Text, Value, add_rows};
 use std::alloc::AllocError;
 
 /// A column of a table.
@@ -14,6 +14,12 @@ pub struct Column {
     pub name: Text,
     /// What the column takes.
     pub kind: Kind,
+    /// Whether it takes no NULL.
+    pub not_null: bool,
+    /// What it holds where a row gives it no value.
+    pub default: Value,
+    /// How its values are spelled in blocks.
+    pub encoding: Encoding,
 }
 
 impl Column {
@@ -24,6 +30,9 @@ impl Column {
         Ok(Column {
             name: self.name.copy()?,
             kind: self.kind,
+            not_null: self.not_null,
+            default: self.default.copy()?,
+            encoding: self.encoding,
         })
     }
 }
@@ -34,11 +43,17 @@ impl Copied for Column {
     }
 }
 
-/// The definition of a table: its columns, in order.
+/// The definition of a table.
 #[derive(Debug, Drop)]
 pub struct TableDef {
+    /// The table's name, folded to lower case.
+    pub name: Text,
     /// The columns, in the order in which they were written.
     pub columns: List<Column>,
+    /// How the rows are shared out.
+    pub style: Style,
+    /// The columns of the sort key by their places among the columns, from 0, in the key's order.
+    pub sort: List<u32>,
 }
 
 impl TableDef {
@@ -47,7 +62,10 @@ impl TableDef {
         ensures { IfOk result (λ copy. copy ≡ self.now) }
     {
         Ok(TableDef {
+            name: self.name.copy()?,
             columns: self.columns.copy()?,
+            style: self.style,
+            sort: self.sort.copy()?,
         })
     }
 }
