@@ -224,8 +224,8 @@ mod tests {
     use crate::views::View;
     use crate::work::{Replied, reply};
     use dw_journal::Taken;
-    use dw_model::{ColumnSpec, Database, FileMap, Object, Statement, TableSpec};
-    use dw_value::{Kind, List, Row, Text, Value};
+    use dw_model::{ColumnSpec, Database, FileMap, Literal, Object, Statement, TableSpec};
+    use dw_value::{Kind, List, Text, Value};
     use std::alloc::{AllocError, Global};
     use std::test::Fail;
 
@@ -237,6 +237,8 @@ create t x=>insert t 2=>=>d t=>r t=>none
 create t x,insert t 1=>=>create t y,insert t 5=>d t=>d t=>x 5
 create t x,insert t 1=>insert t 2=>create t x,insert t 5=>d t r t=>r t=>x 1 2
 create t x,insert t 1=>insert t 2=>create t y,insert t 5=>d t r t=>r t=>y 1 2
+create t x,insert t 1=>drop t=>create t x,insert t 1=>d t r t=>d t r t=>none
+create t x,insert t 1=>drop t,create t y,insert t 2=>create t x,insert t 1=>d t r t=>d t r t=>y 2
 =>=>create t y,insert t 5=>=>d t=>none
 create t x,insert t 1=>=>create t y,insert t 5=>r t=>=>y 5";
 
@@ -247,19 +249,26 @@ create t x,insert t 1=>=>create t y,insert t 5=>r t=>=>y 5";
         let word = words.next().unwrap_or("");
         if form == "create" {
             let mut columns = List::new(alloc);
-            columns.push(ColumnSpec {
-                name: Text::from_str(alloc, word)?,
-                kind: Kind::Int,
-            })?;
+            columns.push(ColumnSpec::new(Text::from_str(alloc, word)?, Kind::Int))?;
             return Ok(Statement::Create {
-                spec: TableSpec { name, columns },
+                spec: TableSpec::new(name, columns),
             });
         }
+        if form == "drop" {
+            return Ok(Statement::Drop { table: name });
+        }
         let mut values = List::new(alloc);
-        values.push(Value::Number(word.parse::<i128>().unwrap_or(0)))?;
+        values.push(Literal::Number {
+            coefficient: word.parse::<i128>().unwrap_or(0),
+            scale: 0,
+        })?;
         let mut rows = List::new(alloc);
-        rows.push(Row { values })?;
-        Ok(Statement::Insert { table: name, rows })
+        rows.push(values)?;
+        Ok(Statement::Insert {
+            table: name,
+            columns: List::new(alloc),
+            rows,
+        })
     }
 
     // The view after these statements, none of which is refused.

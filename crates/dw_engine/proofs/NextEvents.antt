@@ -8,7 +8,7 @@ use Rattle.dw_model.specs.declared.refusals.Refusal.{Refusal}
 use Rattle.dw_model.specs.declared.refusals.Refusal.TheVariants.{Aborted as AbortedRefusal, Memory}
 use Rattle.dw_model.specs.declared.statements.Statement.{Statement}
 use Rattle.dw_model.specs.Databases.{Tables, def_of}
-use Rattle.dw_model.specs.Binding.{bound_refusal}
+use Rattle.dw_model.specs.Bound.{bound_refusal}
 use Rattle.dw_model.specs.Alone.{alone}
 use Rattle.dw_model.specs.Limits.{limit_refusal}
 use Rattle.dw_journal.specs.declared.Event.{Event}

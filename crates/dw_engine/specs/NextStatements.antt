@@ -2,7 +2,7 @@
 use Rattle.std.specs.Prelude.{◌≡◌, ℕ, Option, Some, None}
 use Rattle.dw_model.specs.declared.refusals.Refusal.{Refusal}
 use Rattle.dw_model.specs.declared.statements.Statement.{Statement}
-use Rattle.dw_model.specs.Binding.{bound_refusal}
+use Rattle.dw_model.specs.Bound.{bound_refusal}
 use Rattle.dw_model.specs.Databases.{Tables, def_of}
 use Rattle.dw_journal.specs.Contents.{view}
 use Rattle.dw_journal.specs.History.{History}

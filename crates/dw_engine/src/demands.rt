@@ -38,7 +38,10 @@ pub(crate) fn demand_of(core: &Core, session: u32) -> Result<Demand, AllocError>
             Statement::Begin => Ok(Demand::Begin),
             Statement::Commit => Ok(Demand::Commit),
             Statement::Rollback => Ok(Demand::Rollback),
-            Statement::Create { .. } | Statement::Insert { .. } | Statement::Select { .. } => Ok(
+            Statement::Create { .. }
+            | Statement::Drop { .. }
+            | Statement::Insert { .. }
+            | Statement::Select { .. } => Ok(
                 Demand::Work,
             ),
             Statement::Vacuum { .. } => unreachable!(),

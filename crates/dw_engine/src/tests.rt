@@ -7,8 +7,8 @@ ghost use Rattle.dw_engine.specs.EngineInvariant.{HaveNoVacuum};
 
 use crate::{Engine, Next, Ran};
 use dw_journal::{Event, Given, Shape, World};
-use dw_model::{Answer, ColumnSpec, FileMap, Object, Query, Refusal, Statement, TableSpec};
-use dw_value::{Kind, List, Row, Text, Value};
+use dw_model::{Answer, ColumnSpec, FileMap, Literal, Object, Query, Refusal, Statement, TableSpec};
+use dw_value::{Kind, List, Text};
 use std::alloc::{AllocError, Global};
 use std::test::Fail;
 
@@ -126,18 +126,18 @@ insert t 2",
 
 fn columns(alloc: Global) -> Result<List<ColumnSpec>, AllocError> {
     let mut columns = List::new(alloc);
-    columns.push(ColumnSpec {
-        name: Text::from_str(alloc, "x")?,
-        kind: Kind::Int,
-    })?;
+    columns.push(ColumnSpec::new(Text::from_str(alloc, "x")?, Kind::Int))?;
     Ok(columns)
 }
 
-fn rows(alloc: Global, literal: &str) -> Result<List<Row>, AllocError> {
+fn rows(alloc: Global, literal: &str) -> Result<List<List<Literal>>, AllocError> {
     let mut values = List::new(alloc);
-    values.push(Value::Number(literal.parse::<i128>().unwrap_or(0)))?;
+    values.push(Literal::Number {
+        coefficient: literal.parse::<i128>().unwrap_or(0),
+        scale: 0,
+    })?;
     let mut rows = List::new(alloc);
-    rows.push(Row { values })?;
+    rows.push(values)?;
     Ok(rows)
 }
 
@@ -157,14 +157,12 @@ fn given(alloc: Global, text: &str) -> Result<Given, AllocError> {
         "commit" => Given::Read(Statement::Commit),
         "rollback" => Given::Read(Statement::Rollback),
         "create" => {
-            let spec = TableSpec {
-                name: table,
-                columns: columns(alloc)?,
-            };
+            let spec = TableSpec::new(table, columns(alloc)?);
             Given::Read(Statement::Create { spec })
         }
         "insert" => Given::Read(Statement::Insert {
             table,
+            columns: List::new(alloc),
             rows: rows(alloc, literal)?,
         }),
         "select" => {

@@ -20,6 +20,7 @@ fn given_of_form(statement: Statement) -> Given
     match statement {
         Statement::Vacuum { .. } => Given::Refused(Refusal::Syntax { place: 0 }),
         Statement::Create { .. }
+        | Statement::Drop { .. }
         | Statement::Insert { .. }
         | Statement::Select { .. }
         | Statement::Begin

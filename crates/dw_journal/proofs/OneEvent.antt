@@ -197,7 +197,8 @@ works_statement (Read forms.Commit) statement is = cc
 works_statement (Read forms.Rollback) statement is = cc
 works_statement (Read (forms.Vacuum table)) statement is = cc
 works_statement (Read (forms.Create spec)) statement is = cc
-works_statement (Read (forms.Insert table rows)) statement is = cc
+works_statement (Read (forms.Drop table)) statement is = cc
+works_statement (Read (forms.Insert table columns rows)) statement is = cc
 works_statement (Read (forms.Select query)) statement is = cc
 
 pub sweeps_wants : (given : Given) (table : List ℕ) → call_of given ≡ Sweeps table → wants_in (read_in (Some given)) ≡ sweep_lock table ∷ []
@@ -209,5 +210,6 @@ sweeps_wants (Read (forms.Vacuum other)) table is =
     let same : other ≡ table = cc in
     ap (λ (name : List ℕ). sweep_lock name ∷ []) same
 sweeps_wants (Read (forms.Create spec)) table is = cc
-sweeps_wants (Read (forms.Insert other rows)) table is = cc
+sweeps_wants (Read (forms.Drop other)) table is = cc
+sweeps_wants (Read (forms.Insert other columns rows)) table is = cc
 sweeps_wants (Read (forms.Select query)) table is = cc

@@ -11,7 +11,7 @@ use Rattle.dw_model.specs.declared.objects.Object.{Object}
 use Rattle.dw_model.specs.declared.tables.Table.{Table}
 use Rattle.dw_model.specs.Databases.{Tables, def_of}
 use Rattle.dw_model.specs.Files.{Files}
-use Rattle.dw_model.specs.Binding.{bound_refusal}
+use Rattle.dw_model.specs.Bound.{bound_refusal}
 use Rattle.dw_model.specs.Alone.{alone}
 use Rattle.dw_model.specs.Limits.{limit_refusal}
 use Rattle.dw_journal.specs.declared.BlockState.{BlockState}

@@ -36,7 +36,8 @@ call_of_statement forms.Commit = Commits
 call_of_statement forms.Rollback = RollsBack
 call_of_statement (forms.Vacuum table) = Sweeps table
 call_of_statement (forms.Create spec) = Works (forms.Create spec)
-call_of_statement (forms.Insert table rows) = Works (forms.Insert table rows)
+call_of_statement (forms.Drop table) = Works (forms.Drop table)
+call_of_statement (forms.Insert table columns rows) = Works (forms.Insert table columns rows)
 call_of_statement (forms.Select query) = Works (forms.Select query)
 
 abbrev pub call_of : Given → Call

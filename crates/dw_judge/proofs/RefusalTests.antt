@@ -12,7 +12,7 @@ use Rattle.dw_model.specs.declared.refusals.Refusal.{Refusal}
 use Rattle.dw_model.specs.declared.refusals.Refusal.TheVariants.{Memory}
 use Rattle.dw_model.specs.declared.statements.Statement.{Statement}
 use Rattle.dw_model.specs.Alone.{alone}
-use Rattle.dw_model.specs.Binding.{bound_refusal}
+use Rattle.dw_model.specs.Bound.{bound_refusal}
 use Rattle.dw_model.specs.Databases.{Tables, def_of}
 use Rattle.dw_model.specs.Files.{Files}
 use Rattle.dw_model.specs.Limits.{limit_refusal}

@@ -96,6 +96,8 @@ refusal-true (refusals.Unknown a) (refusals.Unknown b) is = ap refusals.Unknown 
 refusal-true (refusals.Unknown a) other is = absurd (false≢true is)
 refusal-true (refusals.Exists a) (refusals.Exists b) is = ap refusals.Exists (same_name-true a b is)
 refusal-true (refusals.Exists a) other is = absurd (false≢true is)
+refusal-true (refusals.NullIn a) (refusals.NullIn b) is = ap refusals.NullIn (same_name-true a b is)
+refusal-true (refusals.NullIn a) other is = absurd (false≢true is)
 refusal-true (refusals.Deadlock a) (refusals.Deadlock b) is = ap refusals.Deadlock (same_name-true a b is)
 refusal-true (refusals.Deadlock a) other is = absurd (false≢true is)
 refusal-true (refusals.Vacuuming a) (refusals.Vacuuming b) is = ap refusals.Vacuuming (eqb-true a b is)
@@ -117,6 +119,7 @@ refusal-self : (a : Refusal) → same_refusal a a ≡ true
 refusal-self (refusals.Syntax a) = self a
 refusal-self (refusals.Unknown a) = same_name-self a
 refusal-self (refusals.Exists a) = same_name-self a
+refusal-self (refusals.NullIn a) = same_name-self a
 refusal-self (refusals.Deadlock a) = same_name-self a
 refusal-self (refusals.Vacuuming a) = self a
 refusal-self (refusals.Limit a) = self a

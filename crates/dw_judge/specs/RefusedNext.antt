@@ -2,7 +2,7 @@
 use Rattle.std.specs.Prelude.{◌≡◌, ℕ, ◌<◌, Bool, true, false, List, Option, Some, None, option_map}
 use Rattle.dw_model.specs.declared.refusals.Refusal.{Refusal}
 use Rattle.dw_model.specs.declared.refusals.Refusal.TheVariants.{Aborted as AbortedRefusal, InBlock, Memory}
-use Rattle.dw_model.specs.Binding.{bound_refusal}
+use Rattle.dw_model.specs.Bound.{bound_refusal}
 use Rattle.dw_model.specs.Databases.{Tables, def_of}
 use Rattle.dw_journal.specs.declared.BlockState.{BlockState}
 use Rattle.dw_journal.specs.declared.BlockState.TheVariants.{Outside, Within, Aborted}

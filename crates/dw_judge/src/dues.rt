@@ -139,7 +139,10 @@ fn is_taken(k: u64, given: &Given, block: BlockState, is_open: bool, event: &Eve
             Statement::Commit => is_commit_taken(k, block, is_open, event),
             Statement::Rollback => is_rollback_taken(k, block, event),
             Statement::Vacuum { table } => is_sweep_taken(k, table, block, event),
-            Statement::Create { .. } | Statement::Insert { .. } | Statement::Select { .. } => {
+            Statement::Create { .. }
+            | Statement::Drop { .. }
+            | Statement::Insert { .. }
+            | Statement::Select { .. } => {
                 is_work_taken(k, block, event)
             }
         },
@@ -332,7 +335,8 @@ fn number_of(word: Word) -> u8
         Word::Commit => 1,
         Word::Rollback => 2,
         Word::CreateTable => 3,
-        Word::Insert => 4,
-        Word::Select => 5,
+        Word::DropTable => 4,
+        Word::Insert => 5,
+        Word::Select => 6,
     }
 }

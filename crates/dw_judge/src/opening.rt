@@ -2,7 +2,7 @@
 ghost use Rattle.std.specs.Prelude.{drop, ◌≡◌, ◌<◌, ◌≤◌, length, vec_len, is_some, not, IfOk};
 ghost use Rattle.std.specs.Bool.{Decides};
 ghost use Rattle.std.specs.List.{find, range_with_len};
-ghost use Rattle.dw_model.specs.Binding.{bound_refusal};
+ghost use Rattle.dw_model.specs.Bound.{bound_refusal};
 ghost use Rattle.dw_model.specs.Databases.{def_of};
 ghost use Rattle.dw_journal.specs.declared.Route.TheVariants as route;
 ghost use Rattle.dw_journal.specs.Worlds.{statement_at};

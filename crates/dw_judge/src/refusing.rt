@@ -217,7 +217,10 @@ fn outside_refusal(
     match statement {
         Statement::Vacuum { table } => sweep_refusal(swept, database, table),
         Statement::Begin | Statement::Commit | Statement::Rollback => Ok(None),
-        Statement::Create { .. } | Statement::Insert { .. } | Statement::Select { .. } => {
+        Statement::Create { .. }
+            | Statement::Drop { .. }
+            | Statement::Insert { .. }
+            | Statement::Select { .. } => {
             bound_refusal(statement, seen)
         }
     }
@@ -238,7 +241,10 @@ fn within_refusal(
     match statement {
         Statement::Vacuum { .. } => Ok(Some(Refusal::InBlock)),
         Statement::Begin | Statement::Commit | Statement::Rollback => Ok(None),
-        Statement::Create { .. } | Statement::Insert { .. } | Statement::Select { .. } => {
+        Statement::Create { .. }
+            | Statement::Drop { .. }
+            | Statement::Insert { .. }
+            | Statement::Select { .. } => {
             bound_refusal(statement, seen)
         }
     }

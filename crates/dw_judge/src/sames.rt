@@ -109,6 +109,10 @@ pub(crate) fn is_same_refusal(a: &Refusal, b: &Refusal) -> bool
             Refusal::Exists { name: other } => name == other,
             _ => false,
         },
+        Refusal::NullIn { column } => match b {
+            Refusal::NullIn { column: other } => column == other,
+            _ => false,
+        },
         Refusal::Deadlock { cycle } => match b {
             Refusal::Deadlock { cycle: other } => cycle == other,
             _ => false,

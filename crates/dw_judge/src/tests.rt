@@ -1,8 +1,8 @@
 //! Journals judged beside their worlds, with ample memory.
 use crate::{Verdict, judge};
 use dw_journal::{Event, Given, Journal, Route, Shape, World};
-use dw_model::{Answer, ColumnSpec, FileMap, Object, Query, Refusal, Statement, TableSpec, Word};
-use dw_value::{Kind, List, Row, Text, Value};
+use dw_model::{Answer, ColumnSpec, FileMap, Literal, Object, Query, Refusal, Statement, TableSpec, Word};
+use dw_value::{Kind, List, Text};
 use std::alloc::{AllocError, Global};
 use std::test::Fail;
 
@@ -104,23 +104,24 @@ fn statement(alloc: Global, text: &str) -> Result<Statement, AllocError> {
         "vacuum" => Statement::Vacuum { table },
         "create" => {
             let mut columns = List::new(alloc);
-            columns.push(ColumnSpec {
-                name,
-                kind: Kind::Int,
-            })?;
+            columns.push(ColumnSpec::new(name, Kind::Int))?;
             Statement::Create {
-                spec: TableSpec {
-                    name: table,
-                    columns,
-                },
+                spec: TableSpec::new(table, columns),
             }
         }
         "insert" => {
             let mut values = List::new(alloc);
-            values.push(Value::Number(1))?;
+            values.push(Literal::Number {
+                coefficient: 1,
+                scale: 0,
+            })?;
             let mut rows = List::new(alloc);
-            rows.push(Row { values })?;
-            Statement::Insert { table, rows }
+            rows.push(values)?;
+            Statement::Insert {
+                table,
+                columns: List::new(alloc),
+                rows,
+            }
         }
         _ => {
             let mut items = List::new(alloc);

@@ -2,7 +2,7 @@ use Rattle.std.proofs.Common.{◌≡◌, ◌<◌, length, refl, ap, subst, ◌�
 use Rattle.std.specs.Prelude.{Option, is_some}
 use Rattle.std.specs.Bool.{Decides}
 use Rattle.dw_model.specs.declared.statements.Statement.{Statement}
-use Rattle.dw_model.specs.Binding.{bound_refusal}
+use Rattle.dw_model.specs.Bound.{bound_refusal}
 use Rattle.dw_model.specs.Databases.{Tables, def_of}
 use Rattle.dw_journal.specs.History.{History}
 use Rattle.dw_journal.specs.Legal.{IsLegalOpened}

@@ -1,5 +1,5 @@
 use Rattle.std.proofs.Common.{◌≡◌, None, Some, ap, sym, ◌∙◌}
-use Rattle.dw_model.specs.Binding.{bound_refusal}
+use Rattle.dw_model.specs.Bound.{bound_refusal}
 use Rattle.dw_model.specs.Databases.{def_of}
 use Rattle.dw_journal.specs.Contents.{view}
 use Rattle.dw_journal.specs.History.{History}
