@@ -9,7 +9,7 @@ ghost use Rattle.dw_journal.specs.Contents.{Effect, added_by, after_commit, def_
 
 use crate::views::View;
 use dw_journal::Taken;
-use dw_model::{Change, Column, Database, Object, Table};
+use dw_model::{Change, Column, Database, Object, Table, TableDef};
 use dw_value::{List, Row, Text, add_rows};
 use std::alloc::{AllocError, Global};
 
@@ -104,10 +104,20 @@ fn are_defined_alike(a: &Database, b: &Database, name: &Text) -> bool
     ensures { IsTrue result → def_of a.now name.now ≡ def_of b.now name.now }
 {
     match (a.get(name), b.get(name)) {
-        (Some(a), Some(b)) => are_alike(a.def.columns.as_slice(), b.def.columns.as_slice()),
+        (Some(a), Some(b)) => is_same_definition(&a.def, &b.def),
         (None, None) => true,
         (Some(_), None) | (None, Some(_)) => false,
     }
+}
+
+// Whether these are the same definitions.
+fn is_same_definition(a: &TableDef, b: &TableDef) -> bool
+    ensures { IsTrue result → a.now ≡ b.now }
+{
+    a.name == b.name
+        && a.style == b.style
+        && a.sort == b.sort
+        && are_alike(a.columns.as_slice(), b.columns.as_slice())
 }
 
 // Whether these are the same columns in the same order.
@@ -125,11 +135,34 @@ fn are_alike(a: &[Column], b: &[Column]) -> bool
     true
 }
 
-// Whether two columns have the same name and kind.
+// Whether two columns take the same values.
+fn takes_same(a: &Column, b: &Column) -> bool
+    ensures { IsTrue result → (a.now.kind ≡ b.now.kind) × (a.now.not_null ≡ b.now.not_null) }
+{
+    a.kind == b.kind && a.not_null == b.not_null
+}
+
+// Whether two columns have the same default.
+#[tactic(auto, using(crate::proofs::Definitions::value_tied))]
+fn has_same_default(a: &Column, b: &Column) -> bool
+    ensures { IsTrue result → a.now.default ≡ b.now.default }
+{
+    a.default == b.default
+}
+
+// Whether two columns have the same name and encoding.
+fn has_same_name(a: &Column, b: &Column) -> bool
+    ensures { IsTrue result → (a.now.name ≡ b.now.name) × (a.now.encoding ≡ b.now.encoding) }
+{
+    a.name == b.name && a.encoding == b.encoding
+}
+
+// Whether two columns are the same.
+#[tactic(auto, using(crate::proofs::Definitions::column_same))]
 fn is_alike(a: &Column, b: &Column) -> bool
     ensures { IsTrue result → a.now ≡ b.now }
 {
-    a.name == b.name && a.kind == b.kind
+    takes_same(a, b) && has_same_default(a, b) && has_same_name(a, b)
 }
 
 // Copies of the rows that changes add to the table of a name, in order.

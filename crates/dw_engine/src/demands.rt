@@ -40,6 +40,7 @@ pub(crate) fn demand_of(core: &Core, session: u32) -> Result<Demand, AllocError>
             Statement::Rollback => Ok(Demand::Rollback),
             Statement::Create { .. }
             | Statement::Drop { .. }
+            | Statement::Lock { .. }
             | Statement::Insert { .. }
             | Statement::Select { .. } => Ok(
                 Demand::Work,

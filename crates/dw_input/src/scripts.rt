@@ -21,6 +21,7 @@ fn given_of_form(statement: Statement) -> Given
         Statement::Vacuum { .. } => Given::Refused(Refusal::Syntax { place: 0 }),
         Statement::Create { .. }
         | Statement::Drop { .. }
+        | Statement::Lock { .. }
         | Statement::Insert { .. }
         | Statement::Select { .. }
         | Statement::Begin

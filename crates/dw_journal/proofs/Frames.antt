@@ -5,7 +5,7 @@ use Rattle.dw_value.specs.Values.{row_cmp}
 use Rattle.dw_value.specs.Sorted.{add_sorted}
 use Rattle.dw_model.specs.declared.changes.Change.{Change}
 use Rattle.dw_model.specs.declared.statements.Statement.{Statement}
-use Rattle.dw_model.specs.declared.statements.Statement.TheVariants.{Begin, Commit, Rollback, Vacuum, Create, Drop, Insert, Select}
+use Rattle.dw_model.specs.declared.statements.Statement.TheVariants.{Begin, Commit, Rollback, Vacuum, Create, Drop, Lock, Insert, Select}
 use Rattle.dw_model.specs.declared.objects.Object.{Object}
 use Rattle.dw_model.specs.declared.objects.Object.TheVariants.{Def, Rows}
 use Rattle.dw_model.specs.Databases.{Tables, rows_of}
@@ -24,6 +24,7 @@ defs_read Rollback name written = cc
 defs_read (Vacuum table) name written = cc
 defs_read (Create spec) name written = written
 defs_read (Drop table) name written = written
+defs_read (Lock tables) name written = cc
 defs_read (Insert table columns rows) name written = cc
 defs_read (Select query) name written = cc
 

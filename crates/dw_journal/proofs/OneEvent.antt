@@ -198,6 +198,7 @@ works_statement (Read forms.Rollback) statement is = cc
 works_statement (Read (forms.Vacuum table)) statement is = cc
 works_statement (Read (forms.Create spec)) statement is = cc
 works_statement (Read (forms.Drop table)) statement is = cc
+works_statement (Read (forms.Lock tables)) statement is = cc
 works_statement (Read (forms.Insert table columns rows)) statement is = cc
 works_statement (Read (forms.Select query)) statement is = cc
 
@@ -211,5 +212,6 @@ sweeps_wants (Read (forms.Vacuum other)) table is =
     ap (λ (name : List ℕ). sweep_lock name ∷ []) same
 sweeps_wants (Read (forms.Create spec)) table is = cc
 sweeps_wants (Read (forms.Drop other)) table is = cc
+sweeps_wants (Read (forms.Lock tables)) table is = cc
 sweeps_wants (Read (forms.Insert other columns rows)) table is = cc
 sweeps_wants (Read (forms.Select query)) table is = cc

@@ -1,11 +1,11 @@
--- Locks of tables, after the table-level locks of the Amazon Redshift guide: who holds them, who waits for whom, and
--- the cycle that a wait would close. What each statement wants is given by `wants`, so that these definitions speak of
--- any statements.
+-- Locks of tables, after the table-level locks of the Amazon Redshift guide: what each statement wants, who holds them,
+-- who waits for whom, and the cycle that a wait would close. A statement's locks are held from its opening to the end of
+-- its transaction.
 use Rattle.std.specs.Prelude.{ℕ, suc, zero, Bool, true, false, not, ◌==◌, ◌&&◌, if◌then◌else◌, List, [], ◌∷◌, ◌++◌, map, flat_map, Option, Some, None}
 use Rattle.std.specs.List.{filter, list_any, find, range_with_len}
 use Rattle.std.specs.Option.{option_or}
 use Rattle.dw_model.specs.declared.statements.Statement.{Statement}
-use Rattle.dw_model.specs.declared.statements.Statement.TheVariants.{Vacuum}
+use Rattle.dw_model.specs.declared.statements.Statement.TheVariants.{Begin, Commit, Rollback, Vacuum, Create, Drop, Lock, Insert, Select}
 use Rattle.dw_model.specs.Binding.{same_name}
 use Rattle.dw_journal.specs.declared.locks.Mode.{Mode}
 use Rattle.dw_journal.specs.declared.locks.Mode.TheVariants.{AccessShare, ShareRowExclusive, AccessExclusive}
@@ -22,14 +22,34 @@ use Rattle.dw_journal.specs.Vacuums.{swept_by}
 abbrev pub Wants : Type 0
 Wants = ℕ → ℕ → List Want
 
--- the lock of a vacuum, from its begin to its end
+-- the lock of one who reads a table, and of a vacuum from its begin to its end
 abbrev pub sweep_lock : List ℕ → Want
 sweep_lock table = record { table = table; mode = AccessShare }
 
--- the locks that a statement wants: none but VACUUM's, until other statements lock tables
+-- the lock of one who writes a table's rows, beside whom others read them
+abbrev pub write_lock : List ℕ → Want
+write_lock table = record { table = table; mode = ShareRowExclusive }
+
+-- the lock of one who stands alone at a table
+abbrev pub whole_lock : List ℕ → Want
+whole_lock table = record { table = table; mode = AccessExclusive }
+
+-- the locks that a statement wants, all together
+abbrev pub wants_of_statement : Statement → List Want
+wants_of_statement Begin = []
+wants_of_statement Commit = []
+wants_of_statement Rollback = []
+wants_of_statement (Vacuum table) = sweep_lock table ∷ []
+wants_of_statement (Create spec) = whole_lock spec.name ∷ []
+wants_of_statement (Drop table) = whole_lock table ∷ []
+wants_of_statement (Lock tables) = map whole_lock tables
+wants_of_statement (Insert table columns rows) = write_lock table ∷ []
+wants_of_statement (Select query) = sweep_lock query.table ∷ []
+
+-- what isn't in the grammar wants none
 abbrev pub wants_in : Option Statement → List Want
-wants_in (Some (Vacuum table)) = sweep_lock table ∷ []
-wants_in statement = []
+wants_in None = []
+wants_in (Some statement) = wants_of_statement statement
 
 abbrev pub wants_of : World → Wants
 wants_of world session statement = wants_in (statement_at world session statement)

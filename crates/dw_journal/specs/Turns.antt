@@ -37,6 +37,7 @@ call_of_statement forms.Rollback = RollsBack
 call_of_statement (forms.Vacuum table) = Sweeps table
 call_of_statement (forms.Create spec) = Works (forms.Create spec)
 call_of_statement (forms.Drop table) = Works (forms.Drop table)
+call_of_statement (forms.Lock tables) = Works (forms.Lock tables)
 call_of_statement (forms.Insert table columns rows) = Works (forms.Insert table columns rows)
 call_of_statement (forms.Select query) = Works (forms.Select query)
 

@@ -18,8 +18,9 @@ word_of (suc zero) = words.Commit
 word_of (suc (suc zero)) = words.Rollback
 word_of (suc (suc (suc zero))) = words.CreateTable
 word_of (suc (suc (suc (suc zero)))) = words.DropTable
-word_of (suc (suc (suc (suc (suc zero))))) = words.Insert
-word_of (suc (suc (suc (suc (suc (suc n)))))) = words.Select
+word_of (suc (suc (suc (suc (suc zero))))) = words.LockTable
+word_of (suc (suc (suc (suc (suc (suc zero)))))) = words.Insert
+word_of (suc (suc (suc (suc (suc (suc (suc n))))))) = words.Select
 
 word_back : (word : Word) → word_of (word_number word) ≡ word
 unfolding word_of
@@ -28,6 +29,7 @@ word_back words.Commit = refl
 word_back words.Rollback = refl
 word_back words.CreateTable = refl
 word_back words.DropTable = refl
+word_back words.LockTable = refl
 word_back words.Insert = refl
 word_back words.Select = refl
 

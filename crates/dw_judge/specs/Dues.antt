@@ -36,8 +36,9 @@ word_number words.Commit = 1
 word_number words.Rollback = 2
 word_number words.CreateTable = 3
 word_number words.DropTable = 4
-word_number words.Insert = 5
-word_number words.Select = 6
+word_number words.LockTable = 5
+word_number words.Insert = 6
+word_number words.Select = 7
 
 abbrev pub same_word : Word → Word → Bool
 same_word a b = nat_eq (word_number a) (word_number b)

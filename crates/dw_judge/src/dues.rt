@@ -141,6 +141,7 @@ fn is_taken(k: u64, given: &Given, block: BlockState, is_open: bool, event: &Eve
             Statement::Vacuum { table } => is_sweep_taken(k, table, block, event),
             Statement::Create { .. }
             | Statement::Drop { .. }
+            | Statement::Lock { .. }
             | Statement::Insert { .. }
             | Statement::Select { .. } => {
                 is_work_taken(k, block, event)
@@ -336,7 +337,8 @@ fn number_of(word: Word) -> u8
         Word::Rollback => 2,
         Word::CreateTable => 3,
         Word::DropTable => 4,
-        Word::Insert => 5,
-        Word::Select => 6,
+        Word::LockTable => 5,
+        Word::Insert => 6,
+        Word::Select => 7,
     }
 }

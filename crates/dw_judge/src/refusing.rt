@@ -219,6 +219,7 @@ fn outside_refusal(
         Statement::Begin | Statement::Commit | Statement::Rollback => Ok(None),
         Statement::Create { .. }
             | Statement::Drop { .. }
+            | Statement::Lock { .. }
             | Statement::Insert { .. }
             | Statement::Select { .. } => {
             bound_refusal(statement, seen)
@@ -243,6 +244,7 @@ fn within_refusal(
         Statement::Begin | Statement::Commit | Statement::Rollback => Ok(None),
         Statement::Create { .. }
             | Statement::Drop { .. }
+            | Statement::Lock { .. }
             | Statement::Insert { .. }
             | Statement::Select { .. } => {
             bound_refusal(statement, seen)

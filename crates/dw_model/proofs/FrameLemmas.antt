@@ -12,22 +12,55 @@ use Rattle.dw_model.specs.declared.refusals.Refusal.{Refusal}
 use Rattle.dw_model.specs.declared.statements.Literal.{Literal}
 use Rattle.dw_model.specs.declared.statements.Query.{Query}
 use Rattle.dw_model.specs.declared.statements.Statement.{Statement}
-use Rattle.dw_model.specs.declared.statements.Statement.TheVariants.{Begin, Commit, Rollback, Vacuum, Create, Drop, Insert, Select}
+use Rattle.dw_model.specs.declared.statements.Statement.TheVariants.{Begin, Commit, Rollback, Vacuum, Create, Drop, Lock, Insert, Select}
 use Rattle.dw_model.specs.declared.tables.Column.{Column}
 use Rattle.dw_model.specs.declared.tables.TableDef.{TableDef}
 use Rattle.dw_model.specs.Alone.{added_outcome, change_in, change_of, insert_outcome, next_of, outcome_of, outcome_on, reply_in, reply_of}
 use Rattle.dw_model.specs.Binding.{same_name, columns_refusal}
 use Rattle.dw_model.specs.Bound as b
-use Rattle.dw_model.specs.Bound.{BoundStatement, bound, bound_drop, bound_insert, bound_query}
+use Rattle.dw_model.specs.Bound.{BoundStatement, bound, bound_drop, bound_insert, bound_lock, bound_query, first_missing}
 use Rattle.dw_model.specs.Changes.{def_by, rows_by, rows_changed, added_to}
 use Rattle.dw_model.specs.Creating.{create_refusal, def_made}
 use Rattle.dw_model.specs.Inserting.{insert_refusal, names_given, null_column, rows_made}
 use Rattle.dw_model.specs.Databases.{Tables, AllAscending, IsAscending, def_of, rows_of}
 use Rattle.dw_model.specs.Files.{Files}
-use Rattle.dw_model.specs.Objects.{reads_of, writes_of, is_among, SameAt, SameAtAll}
+use Rattle.dw_model.specs.Objects.{defs_of, reads_of, writes_of, is_among, same_object, with_objects, SameAt, SameAtAll}
 use Rattle.dw_model.specs.Refusals.{unless_refused, after_result}
 use Rattle.dw_model.proofs.ChangeLemmas.{HasTable, def_of-changed, rows_of-changed, ascending_rows_by}
-use Rattle.dw_model.proofs.ObjectSets.{SameAt-among}
+use Rattle.dw_model.proofs.ObjectSets.{SameAt-among, is_among-with_objects, same_object-self}
+
+-- ---- the definitions that LOCK reads
+or_front : (t u : Bool) → t ≡ true → ((t || u) || false) ≡ true
+or_front true u e = refl
+or_front false u e = absurd (true≢false (sym e))
+
+or_back : (t u : Bool) → (u || false) ≡ true → ((t || u) || false) ≡ true
+or_back true u e = refl
+or_back false u e = e
+
+-- each of these definitions is the same in two databases
+abbrev AllDefs : Tables → Tables → List (List ℕ) → Type 0
+AllDefs x y [] = Unit {0}
+AllDefs x y (table ∷ tables) = (def_of x table ≡ def_of y table) × AllDefs x y tables
+
+defs_same : (x y : Tables) (tables : List (List ℕ)) → ((object : Object) → (is_among object (defs_of tables) || false) ≡ true → SameAt x y object)
+    → AllDefs x y tables
+defs_same x y [] each = tt
+defs_same x y (table ∷ tables) each = (
+  each (Def table) (or_front (same_object (Def table) (Def table)) (is_among (Def table) (defs_of tables)) (same_object-self (Def table))),
+  defs_same x y tables (λ object is. each object (or_back (same_object object (Def table)) (is_among object (defs_of tables)) is)),
+)
+
+missing_alike : (x y : Tables) (tables : List (List ℕ)) → AllDefs x y tables → first_missing (def_of x) tables ≡ first_missing (def_of y) tables
+missing_alike x y [] same = refl
+missing_alike x y (table ∷ tables) same =
+    ap (λ def. if is_some def then first_missing (def_of x) tables else Some table) same.0
+    ∙ ap (λ missing. if is_some (def_of y table) then missing else Some table) (missing_alike x y tables same.1)
+
+locks_alike : (x y : Tables) (tables : List (List ℕ)) → SameAtAll x y (with_objects (defs_of tables) []) → first_missing (def_of x) tables ≡ first_missing (def_of y) tables
+locks_alike x y tables same =
+    missing_alike x y tables (defs_same x y tables
+    (λ object is. SameAt-among x y object (with_objects (defs_of tables) []) same (is_among-with_objects object (defs_of tables) [] ∙ is)))
 
 module _ (files : Files) where
   -- ---- what a statement comes to, by the objects that it reads
@@ -41,6 +74,11 @@ module _ (files : Files) where
       → after_result (outcome_of files f) (bound_drop table def) ≡ after_result (outcome_of files g) (bound_drop table def)
   drop_alike table None f g = refl
   drop_alike table (Some def) f g = refl
+
+  lock_alike : (missing : Option (List ℕ)) (f g : List ℕ → List Row)
+      → after_result (outcome_of files f) (bound_lock missing) ≡ after_result (outcome_of files g) (bound_lock missing)
+  lock_alike None f g = refl
+  lock_alike (Some table) f g = refl
 
   insert_alike : (table : List ℕ) (listed : List (List ℕ)) (tuples : List (List Literal)) (def : Option TableDef) (f g : List ℕ → List Row)
       → after_result (outcome_of files f) (bound_insert table listed tuples def) ≡ after_result (outcome_of files g) (bound_insert table listed tuples def)
@@ -67,6 +105,9 @@ module _ (files : Files) where
   outcome_framed (Drop table) x y same =
       ap (λ def. after_result (outcome_of files (rows_of x)) (bound_drop table def)) same.0
       ∙ drop_alike table (def_of y table) (rows_of x) (rows_of y)
+  outcome_framed (Lock tables) x y same =
+      ap (λ missing. after_result (outcome_of files (rows_of x)) (bound_lock missing)) (locks_alike x y tables same)
+      ∙ lock_alike (first_missing (def_of y) tables) (rows_of x) (rows_of y)
   outcome_framed (Insert table listed tuples) x y same =
       ap (λ def. after_result (outcome_of files (rows_of x)) (bound_insert table listed tuples def)) same.0
       ∙ insert_alike table listed tuples (def_of y table) (rows_of x) (rows_of y)
@@ -104,6 +145,11 @@ module _ (files : Files) where
       of_unless P (insert_refusal def.columns listed tuples) rows (b.Insert table def.columns (names_given def.columns listed) tuples) none
       (of_made P table def.columns (rows_made def.columns (names_given def.columns listed) tuples) none (some refl))
 
+  of_lock : (P : Change → Type 0) (missing : Option (List ℕ)) (rows : List ℕ → List Row) → P Unchanged
+      → P (change_in (after_result (outcome_of files rows) (bound_lock missing)))
+  of_lock P None rows none = none
+  of_lock P (Some table) rows none = none
+
   of_drop : (P : Change → Type 0) (table : List ℕ) (def : Option TableDef) (rows : List ℕ → List Row) → P Unchanged → P (Drops table)
       → P (change_in (after_result (outcome_of files rows) (bound_drop table def)))
   of_drop P table None rows none some = none
@@ -128,6 +174,7 @@ module _ (files : Files) where
   has_table (Create spec) tables =
       of_create (λ change. HasTable change tables) spec.name (def_made spec) (create_refusal spec (def_of tables spec.name)) (rows_of tables) tt tt
   has_table (Drop table) tables = of_drop (λ change. HasTable change tables) table (def_of tables table) (rows_of tables) tt tt
+  has_table (Lock tables) x = of_lock (λ change. HasTable change x) (first_missing (def_of x) tables) (rows_of x) tt
   has_table (Insert table listed tuples) tables =
       of_insert (λ change. HasTable change tables) table listed tuples (def_of tables table) (rows_of tables) tt (λ there added. there)
   has_table (Select query) tables = of_select (λ change. HasTable change tables) query (def_of tables query.table) (rows_of tables) tt
@@ -197,6 +244,7 @@ module _ (files : Files) where
       of_create (Keeps object) spec.name (def_made spec) (create_refusal spec (def_of tables spec.name)) (rows_of tables) (keeps_all object) (keeps_created object spec.name (def_made spec) other)
   change_keeps (Drop table) tables object other =
       of_drop (Keeps object) table (def_of tables table) (rows_of tables) (keeps_all object) (keeps_dropped object table other)
+  change_keeps (Lock tables) x object other = of_lock (Keeps object) (first_missing (def_of x) tables) (rows_of x) (keeps_all object)
   change_keeps (Insert table listed tuples) tables object other =
       of_insert (Keeps object) table listed tuples (def_of tables table) (rows_of tables) (keeps_all object) (λ there added. keeps_altered object table [] added other)
   change_keeps (Select query) tables object other = of_select (Keeps object) query (def_of tables query.table) (rows_of tables) (keeps_all object)
@@ -227,6 +275,7 @@ module _ (files : Files) where
       (λ before. sym (keeps_else (same_name name spec.name) [] before unread))
   change_adds (Drop table) tables name unread =
       of_drop (OnlyAdds name) table (def_of tables table) (rows_of tables) (λ before. refl) (λ before. sym (keeps_else (same_name name table) [] before unread))
+  change_adds (Lock tables) x name unread = of_lock (OnlyAdds name) (first_missing (def_of x) tables) (rows_of x) (λ before. refl)
   change_adds (Insert table listed tuples) tables name unread =
       of_insert (OnlyAdds name) table listed tuples (def_of tables table) (rows_of tables) (λ before. refl) (λ there added before. adds_either (same_name name table) added before)
   change_adds (Select query) tables name unread = of_select (OnlyAdds name) query (def_of tables query.table) (rows_of tables) (λ before. refl)

@@ -16,7 +16,7 @@ use Rattle.dw_model.specs.declared.answers.Plain.TheVariants.{Done, Refused}
 use Rattle.dw_model.specs.declared.changes.Change.{Change}
 use Rattle.dw_model.specs.declared.changes.Change.TheVariants.{Unchanged, Creates, Drops, Alters}
 use Rattle.dw_model.specs.declared.changes.Outcome.{Outcome}
-use Rattle.dw_model.specs.Bound.{BoundStatement, Create, Drop, Insert, Select, bound}
+use Rattle.dw_model.specs.Bound.{BoundStatement, Create, Drop, Lock, Insert, Select, bound}
 use Rattle.dw_model.specs.Changes.{changed}
 use Rattle.dw_model.specs.Databases.{Tables, def_of, rows_of}
 use Rattle.dw_model.specs.Files.{Files}
@@ -31,6 +31,10 @@ create_outcome table def = record { answer = answers.Plain words.CreateTable; ch
 -- what DROP TABLE comes to: the table goes
 abbrev pub drop_outcome : List ℕ → Outcome
 drop_outcome table = record { answer = answers.Plain words.DropTable; change = Drops table }
+
+-- what LOCK comes to: the answer alone
+abbrev pub lock_outcome : Outcome
+lock_outcome = record { answer = answers.Plain words.LockTable; change = Unchanged }
 
 -- what INSERT of these rows comes to, where this column, if there is one, would hold NULL and takes none: they are added
 -- in order
@@ -56,6 +60,7 @@ select_outcome columns query rows = record {
 abbrev pub outcome_of : Files → (List ℕ → List Row) → BoundStatement → Result Outcome Refusal
 outcome_of files rows (Create table def) = Ok (create_outcome table def)
 outcome_of files rows (Drop table) = Ok (drop_outcome table)
+outcome_of files rows Lock = Ok lock_outcome
 outcome_of files rows (Insert table columns names tuples) =
     insert_outcome table columns (rows_made columns names tuples)
 outcome_of files rows (Select columns query) = Ok (select_outcome columns query (rows query.table))

@@ -1,7 +1,7 @@
 -- A statement bound to the definitions of a database, or its first refusal, in this order: unknown tables; then a name
 -- that is there already; then unknown columns, in the order in which the statement writes them; then what doesn't go
 -- together. The order is this project's own.
-use Rattle.std.specs.Prelude.{ℕ, List, Option, Some, None, Result, Ok, Err}
+use Rattle.std.specs.Prelude.{ℕ, List, [], ◌∷◌, Option, Some, None, is_some, Result, Ok, Err, if◌then◌else◌}
 use Rattle.std.specs.Result.{result_err}
 use Rattle.dw_model.specs.declared.refusals.Refusal.{Refusal}
 use Rattle.dw_model.specs.declared.refusals.Refusal.TheVariants.{Syntax, Unknown}
@@ -21,6 +21,7 @@ use Rattle.dw_model.specs.Refusals.{unless_refused}
 pub data BoundStatement : Type 0 where
   Create : (table : List ℕ) (def : TableDef) → BoundStatement
   Drop : (table : List ℕ) → BoundStatement
+  Lock : BoundStatement
   Insert : (table : List ℕ) (columns : List Column) (names : List (List ℕ)) (tuples : List (List Literal)) → BoundStatement
   Select : (columns : List Column) (query : Query) → BoundStatement
 
@@ -28,6 +29,17 @@ pub data BoundStatement : Type 0 where
 abbrev pub bound_drop : List ℕ → Option TableDef → Result BoundStatement Refusal
 bound_drop table None = Err (Unknown table)
 bound_drop table (Some def) = Ok (Drop table)
+
+-- the first of these names that is no table
+abbrev pub first_missing : Definitions → List (List ℕ) → Option (List ℕ)
+first_missing definitions [] = None
+first_missing definitions (table ∷ tables) =
+    if is_some (definitions table) then first_missing definitions tables else Some table
+
+-- tables that are locked, where all of them are there
+abbrev pub bound_lock : Option (List ℕ) → Result BoundStatement Refusal
+bound_lock None = Ok Lock
+bound_lock (Some table) = Err (Unknown table)
 
 -- tuples for a table, bound to its columns
 abbrev pub bound_insert : List ℕ → List (List ℕ) → List (List Literal) → Option TableDef → Result BoundStatement Refusal
@@ -51,6 +63,7 @@ bound definitions (statements.Vacuum table) = Err (Syntax 0)
 bound definitions (statements.Create spec) =
     unless_refused (create_refusal spec (definitions spec.name)) (Ok (Create spec.name (def_made spec)))
 bound definitions (statements.Drop table) = bound_drop table (definitions table)
+bound definitions (statements.Lock tables) = bound_lock (first_missing definitions tables)
 bound definitions (statements.Insert table columns tuples) = bound_insert table columns tuples (definitions table)
 bound definitions (statements.Select query) = bound_query query (definitions query.table)
 

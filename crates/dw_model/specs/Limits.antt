@@ -3,7 +3,7 @@ use Rattle.std.specs.Prelude.{â„•, nat_lt, List, length, Option, Some, None, ifâ
 use Rattle.dw_model.specs.declared.refusals.Refusal.{Refusal}
 use Rattle.dw_model.specs.declared.refusals.Refusal.TheVariants.{Limit}
 use Rattle.dw_model.specs.declared.statements.Statement.{Statement}
-use Rattle.dw_model.specs.declared.statements.Statement.TheVariants.{Begin, Commit, Rollback, Vacuum, Create, Drop, Insert, Select}
+use Rattle.dw_model.specs.declared.statements.Statement.TheVariants.{Begin, Commit, Rollback, Vacuum, Create, Drop, Lock, Insert, Select}
 use Rattle.dw_model.specs.Databases.{Tables, rows_of}
 
 -- the table whose rows a statement writes
@@ -14,6 +14,7 @@ written_table Rollback = None
 written_table (Vacuum table) = None
 written_table (Create spec) = Some spec.name
 written_table (Drop table) = Some table
+written_table (Lock tables) = None
 written_table (Insert table columns rows) = Some table
 written_table (Select query) = None
 

@@ -1,37 +1,15 @@
 -- Which objects a statement reads and writes, in ascending order: by the table's name, definition before rows. They
 -- depend on the statement alone, and stand also where no row is met.
-use Rattle.std.specs.Prelude.{◌≡◌, ℕ, Bool, true, false, ◌||◌, List, [], ◌∷◌, if◌then◌else◌}
+use Rattle.std.specs.Prelude.{◌≡◌, ℕ, Bool, true, false, ◌||◌, List, [], ◌∷◌, map, if◌then◌else◌}
 use Rattle.std.specs.Cmp.Lexicographic.{slice_cmp}
 use Rattle.std.specs.List.{list_any}
 use Rattle.std.specs.Ordering.{nat_cmp, is_lt}
 use Rattle.dw_model.specs.declared.statements.Statement.{Statement}
-use Rattle.dw_model.specs.declared.statements.Statement.TheVariants.{Begin, Commit, Rollback, Vacuum, Create, Drop, Insert, Select}
+use Rattle.dw_model.specs.declared.statements.Statement.TheVariants.{Begin, Commit, Rollback, Vacuum, Create, Drop, Lock, Insert, Select}
 use Rattle.dw_model.specs.declared.objects.Object.{Object}
 use Rattle.dw_model.specs.declared.objects.Object.TheVariants.{Def, Rows}
 use Rattle.dw_model.specs.Databases.{Tables, def_of, rows_of}
 use Rattle.dw_model.specs.Binding.{same_name}
-
--- the objects that a statement reads; those that begin and end blocks, and VACUUM, read and write none
-abbrev pub reads_of : Statement → List Object
-reads_of Begin = []
-reads_of Commit = []
-reads_of Rollback = []
-reads_of (Vacuum table) = []
-reads_of (Create spec) = Def spec.name ∷ Rows spec.name ∷ []
-reads_of (Drop table) = Def table ∷ Rows table ∷ []
-reads_of (Insert table columns rows) = Def table ∷ []
-reads_of (Select query) = Def query.table ∷ Rows query.table ∷ []
-
--- the objects that a statement writes
-abbrev pub writes_of : Statement → List Object
-writes_of Begin = []
-writes_of Commit = []
-writes_of Rollback = []
-writes_of (Vacuum table) = []
-writes_of (Create spec) = Def spec.name ∷ Rows spec.name ∷ []
-writes_of (Drop table) = Def table ∷ Rows table ∷ []
-writes_of (Insert table columns rows) = Rows table ∷ []
-writes_of (Select query) = []
 
 -- two objects are the same
 abbrev pub same_object : Object → Object → Bool
@@ -77,6 +55,34 @@ with_object object (first ∷ rest) =
 abbrev pub with_objects : List Object → List Object → List Object
 with_objects [] set = set
 with_objects (object ∷ more) set = with_object object (with_objects more set)
+
+-- the definitions of the tables of these names
+abbrev pub defs_of : List (List ℕ) → List Object
+defs_of tables = map (λ table. Def table) tables
+
+-- the objects that a statement reads; those that begin and end blocks, and VACUUM, read and write none
+abbrev pub reads_of : Statement → List Object
+reads_of Begin = []
+reads_of Commit = []
+reads_of Rollback = []
+reads_of (Vacuum table) = []
+reads_of (Create spec) = Def spec.name ∷ Rows spec.name ∷ []
+reads_of (Drop table) = Def table ∷ Rows table ∷ []
+reads_of (Lock tables) = with_objects (defs_of tables) []
+reads_of (Insert table columns rows) = Def table ∷ []
+reads_of (Select query) = Def query.table ∷ Rows query.table ∷ []
+
+-- the objects that a statement writes
+abbrev pub writes_of : Statement → List Object
+writes_of Begin = []
+writes_of Commit = []
+writes_of Rollback = []
+writes_of (Vacuum table) = []
+writes_of (Create spec) = Def spec.name ∷ Rows spec.name ∷ []
+writes_of (Drop table) = Def table ∷ Rows table ∷ []
+writes_of (Lock tables) = []
+writes_of (Insert table columns rows) = Rows table ∷ []
+writes_of (Select query) = []
 
 -- two databases have the same object
 abbrev pub SameAt : Tables → Tables → Object → Type 0

@@ -16,6 +16,8 @@ pub enum Word {
     CreateTable,
     /// DROP TABLE.
     DropTable,
+    /// LOCK, also where the statement says LOCK TABLE.
+    LockTable,
     /// INSERT.
     Insert,
     /// SELECT.

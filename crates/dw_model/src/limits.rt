@@ -22,6 +22,7 @@ fn written_table(statement: &Statement) -> Option<&Text>
         | Statement::Commit
         | Statement::Rollback
         | Statement::Vacuum { .. }
+        | Statement::Lock { .. }
         | Statement::Select { .. } => None,
     }
 }

@@ -3,7 +3,7 @@ ghost use Rattle.std.specs.Prelude.{◌≡◌, ◌+◌, ◌<◌, ◌≤◌, fals
 ghost use Rattle.std.specs.Option.{option_map_or};
 ghost use Rattle.std.specs.Vec.{vec_capacity, vec_len};
 ghost use Rattle.dw_model.specs.declared.objects.Object.TheVariants as object;
-ghost use Rattle.dw_model.specs.Objects.{IsAscendingObjects, object_before, reads_of, same_object, table_of, with_object, with_objects, writes_of};
+ghost use Rattle.dw_model.specs.Objects.{IsAscendingObjects, defs_of, object_before, reads_of, same_object, table_of, with_object, with_objects, writes_of};
 
 use crate::statements::Statement;
 use dw_value::{Copied, List, Text};
@@ -124,6 +124,7 @@ impl Statement {
                 Ok(List::new(alloc)),
             Statement::Create { spec } => both(alloc, &spec.name),
             Statement::Drop { table } => both(alloc, table),
+            Statement::Lock { tables } => definition_set(alloc, tables.as_slice()),
             Statement::Insert { table, .. } => only(alloc, Object::Def(table.copy()?)),
             Statement::Select { query } => both(alloc, &query.table),
         }
@@ -141,6 +142,7 @@ impl Statement {
             | Statement::Commit
             | Statement::Rollback
             | Statement::Vacuum { .. }
+            | Statement::Lock { .. }
             | Statement::Select { .. } => Ok(List::new(alloc)),
         }
     }
@@ -151,6 +153,26 @@ fn only(alloc: Global, object: Object) -> Result<List<Object>, AllocError>
 {
     let mut objects = List::new(alloc);
     objects.push(object)?;
+    Ok(objects)
+}
+
+// The definitions of the tables of these names.
+fn definitions(alloc: Global, tables: &[Text]) -> Result<List<Object>, AllocError>
+    ensures { IfOk result (λ objects. objects ≡ defs_of tables.now) }
+{
+    let mut objects = List::with_capacity(alloc, tables.len())?;
+    for table in tables {
+        objects.push(Object::Def(table.copy()?))?;
+    }
+    Ok(objects)
+}
+
+// The same in ascending order, each once.
+fn definition_set(alloc: Global, tables: &[Text]) -> Result<List<Object>, AllocError>
+    ensures { IfOk result (λ objects. objects ≡ with_objects (defs_of tables.now) []) }
+{
+    let mut objects = List::new(alloc);
+    add_objects(&mut objects, definitions(alloc, tables)?)?;
     Ok(objects)
 }
 
@@ -231,7 +253,12 @@ mod tests {
             columns: List::new(alloc),
             rows: List::new(alloc),
         };
+        let mut tables = List::new(alloc);
+        for name in ["u", "t", "u"] {
+            tables.push(Text::from_str(alloc, name)?)?;
+        }
         for (statement, reads, writes) in [
+            (Statement::Lock { tables }, " d t d u", ""),
             (Statement::Create { spec }, " d t r t", " d t r t"),
             (dropped, " d t r t", " d t r t"),
             (insert, " d t", " r t"),

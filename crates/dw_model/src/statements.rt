@@ -146,6 +146,10 @@ pub enum Statement {
     Drop {
         table: Text,
     },
+    /// LOCK: the tables of these names, at least one, are locked to the end of the transaction.
+    Lock {
+        tables: List<Text>,
+    },
     /// INSERT INTO .. VALUES, with the literals of each tuple, for the columns of these names. Where no names were
     /// written, they are for all columns of the table in order.
     Insert {

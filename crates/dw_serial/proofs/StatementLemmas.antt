@@ -10,7 +10,7 @@ use Rattle.dw_value.proofs.SortedLaws.{add_sorted-append, add_sorted-swap}
 use Rattle.dw_model.specs.declared.changes.Change.{Change}
 use Rattle.dw_model.specs.declared.changes.Change.TheVariants.{Unchanged, Creates, Drops, Alters}
 use Rattle.dw_model.specs.declared.statements.Statement.{Statement}
-use Rattle.dw_model.specs.declared.statements.Statement.TheVariants.{Begin, Commit, Rollback, Vacuum, Create, Drop, Insert, Select}
+use Rattle.dw_model.specs.declared.statements.Statement.TheVariants.{Begin, Commit, Rollback, Vacuum, Create, Drop, Lock, Insert, Select}
 use Rattle.dw_model.specs.declared.objects.Object.{Object}
 use Rattle.dw_model.specs.declared.objects.Object.TheVariants.{Def, Rows}
 use Rattle.dw_model.specs.declared.tables.Table.{Table}
@@ -61,6 +61,7 @@ def_written Rollback name written = cc
 def_written (Vacuum table) name written = cc
 def_written (Create spec) name written = let same = or_false _ written in (rw same refl, rw same refl, rw same refl)
 def_written (Drop table) name written = let same = or_false _ written in (rw same refl, rw same refl, rw same refl)
+def_written (Lock tables) name written = cc
 def_written (Insert table columns rows) name written = cc
 def_written (Select query) name written = cc
 
@@ -72,6 +73,7 @@ rows_written Rollback name written = cc
 rows_written (Vacuum table) name written = cc
 rows_written (Create spec) name written = let same = or_false _ written in rw same refl
 rows_written (Drop table) name written = let same = or_false _ written in rw same refl
+rows_written (Lock tables) name written = cc
 rows_written (Insert table columns rows) name written = let same = or_false _ written in rw same refl
 rows_written (Select query) name written = cc
 
