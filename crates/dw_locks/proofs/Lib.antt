@@ -5,3 +5,4 @@ pub mod TableLemmas
 pub mod Standing
 pub mod HeldOnce
 pub mod CycleLemmas
+pub mod Lasting

@@ -3,3 +3,4 @@ pub mod LockTable
 pub mod Grants
 pub mod Requests
 pub mod Cycles
+pub mod Lasting

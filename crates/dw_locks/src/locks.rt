@@ -78,6 +78,22 @@ impl Locks {
         self.entries[session as usize].can_withdraw()
     }
 
+    /// What the session would be answered if it asked for these locks, all together, as `request` says. It changes nothing.
+    pub fn answer(&self, session: u32, wants: &List<Want>) -> Result<Asked, AllocError>
+        requires { session < length self.now }
+        ensures { IfOk result (λ asked. asked ≡ answer_to self.now session wants.now) }
+    {
+        let alloc = *self.entries.allocator();
+        let holders = blockers(alloc, self.entries.as_slice(), session, wants.as_slice())?;
+        if holders.is_empty() {
+            return Ok(Asked::Granted);
+        }
+        match cycle(alloc, self.entries.as_slice(), session, wants.as_slice())? {
+            Some(cycle) => Ok(Asked::Deadlock { cycle }),
+            None => Ok(Asked::Waits { holders }),
+        }
+    }
+
     /// A session asks for these locks, all together. Its own locks never block it. Where no other's do, it holds them
     /// after those that it held, each that it held already once, and waits no more; where its wait would close a cycle,
     /// nothing changes; else it waits for them, in place of what it waited for. Where memory runs out, nothing changes.
@@ -88,17 +104,13 @@ impl Locks {
             (self.new ≡ table_after self.old session wants.now (answer_to self.old session wants.now)) }
         ensures err { OnErr result (self.new ≡ self.old) }
     {
-        let alloc = *self.entries.allocator();
-        let holders = blockers(alloc, self.entries.as_slice(), session, wants.as_slice())?;
-        if holders.is_empty() {
-            self.entries[session as usize].grant(wants.as_slice())?;
-            return Ok(Asked::Granted);
+        let asked = self.answer(session, wants)?;
+        match asked {
+            Asked::Granted => self.entries[session as usize].grant(wants.as_slice())?,
+            Asked::Waits { .. } => self.entries[session as usize].wait(wants.as_slice())?,
+            Asked::Deadlock { .. } => {}
         }
-        if let Some(cycle) = cycle(alloc, self.entries.as_slice(), session, wants.as_slice())? {
-            return Ok(Asked::Deadlock { cycle });
-        }
-        self.entries[session as usize].wait(wants.as_slice())?;
-        Ok(Asked::Waits { holders })
+        Ok(asked)
     }
 
     /// The session holds nothing more, and waits for nothing. All others are as before.

@@ -4,7 +4,9 @@ ghost use Rattle.dw_locks.specs.Walks.{AreSessions};
 
 use crate::cycles::first_cycle;
 use crate::locks::{Asked, Locks};
-use dw_journal::{Mode, Want};
+use crate::wanted::wants;
+use dw_journal::{Given, Mode, Want};
+use dw_model::Statement;
 use dw_value::{List, Text};
 use std::alloc::{AllocError, Global};
 use std::test::Fail;
@@ -141,7 +143,17 @@ fn asked(alloc: Global, locks: &mut Locks, session: u32, words: &str) -> Result<
     for word in words.split(' ') {
         wants.push(want_of(alloc, word)?)?;
     }
-    match locks.request(session, &wants)? {
+    let foretold = told(alloc, locks.answer(session, &wants)?)?;
+    let answer = told(alloc, locks.request(session, &wants)?)?;
+    if foretold.as_str() != answer.as_str() {
+        return String::from_str(alloc, "otherwise than it was foretold");
+    }
+    Ok(answer)
+}
+
+/// The words of an answer.
+fn told(alloc: Global, asked: Asked) -> Result<String, AllocError> {
+    match asked {
         Asked::Granted => String::from_str(alloc, "granted"),
         Asked::Waits { holders } => listed(alloc, "waits", holders.as_slice()),
         Asked::Deadlock { cycle } => listed(alloc, "deadlock", cycle.as_slice()),
@@ -200,5 +212,23 @@ fn calls_are_answered(rt: HostRuntime) -> Result<(), Fail> {
         let fault = fault_of(rt.alloc(), row)?;
         assert_eq!(rt; fault, "", "{row}");
     }
+    Ok(())
+}
+
+/// A VACUUM wants its table in `AccessShare`; what the grammar refused wants nothing.
+#[test]
+fn statements_want_their_locks(rt: HostRuntime) -> Result<(), Fail> {
+    let alloc = rt.alloc();
+    let table = Text::from_str(alloc, "a")?;
+    let sweep = Given::Read(Statement::Vacuum { table });
+    let wanted = wants(alloc, Some(&sweep))?;
+    assert_eq!(rt; wanted.len(), 1);
+    assert!(rt;
+        wanted.as_slice().iter().all(|want| matches!(want.mode, Mode::AccessShare)
+            && want.table.as_str() == "a")
+    );
+    let begin = Given::Read(Statement::Begin);
+    assert_eq!(rt; wants(alloc, Some(&begin))?.len(), 0);
+    assert_eq!(rt; wants(alloc, None)?.len(), 0);
     Ok(())
 }
