@@ -29,7 +29,7 @@ use Rattle.dw_core.specs.declared.decisions.Committed.TheVariants as decisions
 use Rattle.dw_core.specs.declared.sessions.Session.{Session}
 use Rattle.dw_core.specs.declared.sessions.Stage.TheVariants as stage
 use Rattle.dw_core.specs.declared.transactions.Transaction.{Transaction as KeptTransaction}
-use Rattle.dw_core.specs.Changes.{session_after}
+use Rattle.dw_core.specs.Changes.{ends_transaction, session_after}
 use Rattle.dw_core.specs.CoreInvariant.{IsKept, IsWithin, taken_in, owed_events}
 use Rattle.dw_core.specs.Decisions.{IsDecided}
 use Rattle.dw_core.specs.DueEvents.{decision_of}
@@ -56,7 +56,17 @@ decided_alike history session k (decisions.Stamped stamp low high) kept = refl
 decided_alike history session k (decisions.Violation low high object) kept = refl
 decided_alike history session k decisions.Memory kept = refl
 
--- it leaves the locks as they are, but that its session may hold none any more
+-- it is its session's, whose locks are released
+pub decision_of_it : (session k : ℕ) (result : Committed) → session_of (decision_of session k result) ≡ Some session
+decision_of_it session k (decisions.Stamped stamp low high) = refl
+decision_of_it session k (decisions.Violation low high object) = refl
+decision_of_it session k decisions.Memory = refl
+
+pub decision_ends : (session k : ℕ) (result : Committed) → ends_transaction (decision_of session k result) ≡ true
+decision_ends session k (decisions.Stamped stamp low high) = refl
+decision_ends session k (decisions.Violation low high object) = refl
+decision_ends session k decisions.Memory = refl
+
 pub decided_calm : (history : History) (session k : ℕ) (result : Committed) → IsCalm history (decision_of session k result)
 decided_calm history session k (decisions.Stamped stamp low high) = tt
 decided_calm history session k (decisions.Violation low high object) = tt

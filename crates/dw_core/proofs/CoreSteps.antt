@@ -15,19 +15,22 @@ use Rattle.dw_journal.specs.Worlds.{IsSession}
 use Rattle.dw_journal.specs.History.{History, with_event, session_of, is_of}
 use Rattle.dw_journal.specs.Blocks.{block_after}
 use Rattle.dw_journal.specs.Transactions.{transaction_of, snapshot_of, commits}
+use Rattle.dw_journal.specs.Locks.{lock_state}
 use Rattle.dw_journal.specs.Turns.{number_due}
 use Rattle.dw_journal.specs.Legal.{IsNextEvent, certified}
 use Rattle.dw_journal.proofs.Stand.{commits-event}
 use Rattle.dw_ssn.specs.Summaries.{Summaries, StandsFor}
+use Rattle.dw_locks.specs.LockTable.{LockTable, StandsForLocks}
 use Rattle.dw_core.specs.Pruned.{pruned_at}
 use Rattle.dw_core.specs.declared.sessions.Session.{Session}
 use Rattle.dw_core.specs.declared.sessions.Stage.{Stage}
 use Rattle.dw_core.specs.declared.sessions.Stage.TheVariants as stage
-use Rattle.dw_core.specs.Changes.{IsPlain, HasRoomKept, answered_stage, session_after}
+use Rattle.dw_core.specs.Changes.{IsPlain, HasRoomKept, answered_stage, locks_after, session_after}
 use Rattle.dw_core.specs.CoreInvariant.{CoreInvariant, IsKept, IsWithin, owed_events, total_owed}
 use Rattle.dw_core.proofs.DueEvents.{told}
+use Rattle.dw_core.proofs.Locking.{plain_locked}
 use Rattle.dw_core.proofs.KeptSessions.{is_between, is_opened, stage_at}
-use Rattle.dw_core.proofs.NextEvents.{IsCalm, IsOfTransaction, OpensNothing, kept_after_own, kept_by_others, still_unattached, still_unswept, still_unwanted, still_within}
+use Rattle.dw_core.proofs.NextEvents.{IsCalm, IsOfTransaction, OpensNothing, kept_after_own, kept_by_others, still_unattached, still_unswept, still_within}
 
 -- a list with one element changed
 slice_get_set : (xs : List Session) (i : ℕ) (x y : Session) → i < length xs → slice_get (set xs i x) i ≡ Some y → x ≡ y
@@ -151,11 +154,11 @@ plain_stands history session (Commit other k stamp low high) is certifier stands
 plain_stands history session event is certifier stands = stands
 
 -- the parts agree still where only room was made
-pub roomier : (history : History) (newer : List Event) (sessions : List Session) (certifier : Summaries) (count capacity more room : ℕ)
-    → CoreInvariant history sessions certifier count capacity → newer ≡ history.events → more ≡ count → capacity ≤ room
-    → CoreInvariant (record { shape = history.shape; world = history.world; events = newer }) sessions certifier more room
-roomier history newer sessions certifier count capacity more room core same more_is further =
-    subst (λ (events : List Event). CoreInvariant (record { shape = history.shape; world = history.world; events = events }) sessions certifier more room) (sym same)
+pub roomier : (history : History) (newer : List Event) (sessions : List Session) (certifier : Summaries) (table locked : LockTable) (count capacity more room : ℕ)
+    → CoreInvariant history sessions certifier table count capacity → newer ≡ history.events → StandsForLocks locked (lock_state history) → more ≡ count → capacity ≤ room
+    → CoreInvariant (record { shape = history.shape; world = history.world; events = newer }) sessions certifier locked more room
+roomier history newer sessions certifier table locked count capacity more room core same locks more_is further =
+    subst (λ (events : List Event). CoreInvariant (record { shape = history.shape; world = history.world; events = events }) sessions certifier locked more room) (sym same)
     (record {
       number = core.number;
       shaped = core.shaped;
@@ -163,7 +166,7 @@ roomier history newer sessions certifier count capacity more room core same more
       each = core.each;
       stands = core.stands;
       snapshots = core.snapshots;
-      unwanted = core.unwanted;
+      locks = locks;
       unswept = core.unswept;
       unattached = core.unattached;
       follows = core.follows;
@@ -171,8 +174,8 @@ roomier history newer sessions certifier count capacity more room core same more
       room = omega (arith, core.room);
     })
 
-module _ (history : History) (sessions : List Session) (certifier : Summaries) (count capacity : ℕ)
-    (core : CoreInvariant history sessions certifier count capacity) (session : ℕ) (is : IsSession history.world session) where
+module _ (history : History) (sessions : List Session) (certifier : Summaries) (table : LockTable) (count capacity : ℕ)
+    (core : CoreInvariant history sessions certifier table count capacity) (session : ℕ) (is : IsSession history.world session) where
   pub place_within : session - 1 < length sessions
   place_within = omega (arith, core.number, is.0, is.1)
 
@@ -227,28 +230,29 @@ module _ (history : History) (sessions : List Session) (certifier : Summaries) (
         still_within history certifier.oldest pruned event other calm (commits-event event history.events) (core.snapshots other is_other)
 
     -- the parts agree once more
-    pub agrees_after : (newer : List Event) (changed : List Session) (after : Summaries) (more room : ℕ) → newer ≡ event ∷ history.events → changed ≡ set sessions (session - 1) now
+    pub agrees_after : (newer : List Event) (changed : List Session) (after : Summaries) (locked : LockTable) (more room : ℕ) → newer ≡ event ∷ history.events → changed ≡ set sessions (session - 1) now
+        → StandsForLocks locked (lock_state (with_event history event))
         → StandsFor after (record { oldest = pruned_at (with_event history event); commits = certified (with_event history event) })
         → ((other : ℕ) → IsSession history.world other → IsWithin after.oldest (commits (event ∷ history.events)) (snapshot_of other (event ∷ history.events)))
         → more + total_owed changed ≤ room
-        → CoreInvariant (record { shape = history.shape; world = history.world; events = newer }) changed after more room
-    agrees_after newer changed after more room newer_is changed_is stands snapshots owes =
-        let agreed : CoreInvariant (with_event history event) (set sessions (session - 1) now) after more room = record {
+        → CoreInvariant (record { shape = history.shape; world = history.world; events = newer }) changed after locked more room
+    agrees_after newer changed after locked more room newer_is changed_is locks stands snapshots owes =
+        let agreed : CoreInvariant (with_event history event) (set sessions (session - 1) now) after locked more room = record {
           number = length_set sessions (session - 1) now ∙ core.number;
           shaped = core.shaped;
           short = core.short;
           each = each_after;
           stands = stands;
           snapshots = snapshots;
-          unwanted = λ other. still_unwanted history event other calm (core.unwanted other);
+          locks = locks;
           unswept = λ other. still_unswept history event other calm (core.unswept other);
           unattached = λ cluster. still_unattached history event cluster calm (core.unattached cluster);
           follows = (next.0, core.follows);
           legal = (next.1, core.legal);
           room = subst (λ (s : List Session). more + total_owed s ≤ room) changed_is owes;
         } in
-        subst (λ (events : List Event). CoreInvariant (record { shape = history.shape; world = history.world; events = events }) changed after more room) (sym newer_is)
-        (subst (λ (s : List Session). CoreInvariant (with_event history event) s after more room) (sym changed_is) agreed)
+        subst (λ (events : List Event). CoreInvariant (record { shape = history.shape; world = history.world; events = events }) changed after locked more room) (sym newer_is)
+        (subst (λ (s : List Session). CoreInvariant (with_event history event) s after locked more room) (sym changed_is) agreed)
 
   -- a plain event of the session
   module _ (kept : Session) (is_kept : IsKept history session kept) (event : Event) (plain : IsPlain session event) (next : IsNextEvent history event) where
@@ -261,13 +265,17 @@ module _ (history : History) (sessions : List Session) (certifier : Summaries) (
         (stage_at history session is.0 kept is_kept stage.Opened (is_opened history session is.0 kept is_kept k turn)).1
     of_open one is_plain comes = tt
 
-    pub agrees_plain : (newer : List Event) (changed : List Session) (more room : ℕ) → newer ≡ event ∷ history.events → changed ≡ set sessions (session - 1) now
-        → more + total_owed changed ≤ room → CoreInvariant (record { shape = history.shape; world = history.world; events = newer }) changed certifier more room
-    agrees_plain newer changed more room newer_is changed_is owes =
+    pub agrees_plain : (newer : List Event) (changed : List Session) (locked : LockTable) (more room : ℕ) → newer ≡ event ∷ history.events → changed ≡ set sessions (session - 1) now
+        → locked ≡ locks_after event session table
+        → more + total_owed changed ≤ room → CoreInvariant (record { shape = history.shape; world = history.world; events = newer }) changed certifier locked more room
+    agrees_plain newer changed locked more room newer_is changed_is locked_is owes =
         let of_it = plain_session session event plain in
+        let locks : StandsForLocks locked (lock_state (with_event history event)) =
+        subst (λ (t : LockTable). StandsForLocks t (lock_state (with_event history event))) (sym locked_is)
+        (plain_locked history table core.locks session is (core.unswept session) core.follows event plain of_it next.0) in
         agrees_after event of_it next (plain_calm history session event plain) now
         (kept_after_own history session kept is_kept event of_it (plain_opens session event plain) (of_open event plain next))
-        newer changed certifier more room newer_is changed_is (plain_stands history session event plain certifier core.stands)
+        newer changed certifier locked more room newer_is changed_is locks (plain_stands history session event plain certifier core.stands)
         (still_open event of_it next (plain_calm history session event plain) now
         (kept_after_own history session kept is_kept event of_it (plain_opens session event plain) (of_open event plain next))) owes
 

@@ -2,10 +2,13 @@ pub mod KeptSessions
 pub mod DueEvents
 pub mod NextEvents
 pub mod CoreSteps
-pub mod NoLocks
+pub mod NoClusters
 pub mod NewCores
 pub mod Openings
 pub mod Committing
 pub mod OpenTransactions
 pub mod Driver
 pub mod Horizons
+pub mod Waiting
+pub mod Locking
+pub mod Asking

@@ -1,6 +1,6 @@
 -- Sessions that have done nothing agree with no event.
-use Rattle.std.proofs.Common.{◌≡◌, ℕ, zero, suc, ◌-◌, List, [], ◌∷◌, ◌++◌, length, reverse, refl, sym, ap, subst, arith}
-use Rattle.std.specs.Prelude.{Some, None, slice_get}
+use Rattle.std.proofs.Common.{◌≡◌, ℕ, zero, suc, ◌+◌, ◌-◌, List, [], ◌∷◌, ◌++◌, length, reverse, refl, sym, ap, subst, ◌∙◌, arith}
+use Rattle.std.specs.Prelude.{Some, None, replicate, slice_get}
 use Rattle.std.proofs.lemmas.List.Sums.{sum_by-cons}
 use Rattle.dw_journal.specs.declared.BlockState.TheVariants.{Outside}
 use Rattle.dw_journal.specs.declared.Event.{Event}
@@ -8,6 +8,9 @@ use Rattle.dw_journal.specs.declared.Shape.{Shape}
 use Rattle.dw_journal.specs.declared.World.{World}
 use Rattle.dw_journal.specs.Worlds.{AreShort, session_count}
 use Rattle.dw_journal.specs.History.{History}
+use Rattle.dw_journal.specs.Locks.{lock_state, wants_of}
+use Rattle.dw_locks.specs.LockTable.{LockTable, StandsForLocks, free_entry}
+use Rattle.dw_locks.proofs.Lasting.{new_stands}
 use Rattle.dw_ssn.specs.Summaries.{Summaries, StandsFor}
 use Rattle.dw_core.specs.declared.sessions.Session.{Session}
 use Rattle.dw_core.specs.declared.sessions.Stage.TheVariants as stage
@@ -42,11 +45,11 @@ module _ (shape : Shape) (world : World) where
   is_kept_fresh : (session : ℕ) → IsKept (at []) session fresh
   is_kept_fresh session = record { count_is = refl; block_is = refl; turn_is = refl; at_stage = tt; taken_is = refl; names = tt }
 
-  pub agrees_new : (items : List Event) (sessions : List Session) (certifier : Summaries) (count capacity : ℕ) → items ≡ [] → AreFresh sessions
-      → StandsFor certifier (record { oldest = 0; commits = [] }) → count ≡ 0 → length sessions ≡ session_count world → shape.sessions ≡ session_count world → AreShort world.scripts
-      → CoreInvariant (at (reverse items)) sessions certifier count capacity
-  agrees_new items sessions certifier count capacity none all stands count_is number shaped short =
-      subst (λ (events : List Event). CoreInvariant (at (reverse events)) sessions certifier count capacity) (sym none)
+  pub agrees_new : (items : List Event) (sessions : List Session) (certifier : Summaries) (table : LockTable) (count capacity : ℕ) → items ≡ [] → AreFresh sessions
+      → StandsFor certifier (record { oldest = 0; commits = [] }) → table ≡ replicate (shape.sessions + 1) free_entry → count ≡ 0 → length sessions ≡ session_count world → shape.sessions ≡ session_count world → AreShort world.scripts
+      → CoreInvariant (at (reverse items)) sessions certifier table count capacity
+  agrees_new items sessions certifier table count capacity none all stands table_is count_is number shaped short =
+      subst (λ (events : List Event). CoreInvariant (at (reverse events)) sessions certifier table count capacity) (sym none)
       (record {
         number = number;
         shaped = shaped;
@@ -54,7 +57,8 @@ module _ (shape : Shape) (world : World) where
         each = λ session kept first there. subst (IsKept (at []) session) (sym (each_fresh sessions (session - 1) kept all there)) (is_kept_fresh session);
         stands = stands;
         snapshots = λ session is. tt;
-        unwanted = λ session. refl;
+        locks = subst (λ (t : LockTable). StandsForLocks t (lock_state (at []))) (sym (table_is ∙ ap (λ (n : ℕ). replicate (n + 1) free_entry) shaped))
+            (new_stands (wants_of world) (session_count world));
         unswept = λ session. refl;
         unattached = λ cluster. refl;
         follows = tt;

@@ -1,6 +1,6 @@
 -- What is kept of the sessions once an event came that is of one of them.
-use Rattle.std.proofs.Common.{◌≡◌, ℕ, ◌+◌, ◌≤◌, Bool, true, false, List, [], ◌∷◌, ◌++◌, refl, sym, ap, subst, ◌∙◌, arith}
-use Rattle.std.specs.Prelude.{Option, Some, None, if◌then◌else◌, flat_map, is_some, option_map}
+use Rattle.std.proofs.Common.{◌≡◌, ℕ, ◌+◌, ◌≤◌, Bool, true, false, List, [], ◌∷◌, refl, sym, ap, subst, ◌∙◌, arith}
+use Rattle.std.specs.Prelude.{Option, Some, None, if◌then◌else◌, is_some, option_map}
 use Rattle.std.proofs.lemmas.Bool.{eqb-true, eq-eqb}
 use Rattle.dw_model.specs.declared.answers.Answer.{Answer as Reply}
 use Rattle.dw_model.specs.declared.statements.Statement.{Statement}
@@ -11,13 +11,11 @@ use Rattle.dw_journal.specs.declared.Event.{Event}
 use Rattle.dw_journal.specs.declared.Event.TheVariants.{Opened, Answer, Commit, Violation, Refuse, Rollback, VacuumBegin, VacuumSlice, VacuumEnd, Refresh, End}
 use Rattle.dw_journal.specs.declared.Route.{Route}
 use Rattle.dw_journal.specs.declared.Taken.{Taken}
-use Rattle.dw_journal.specs.declared.locks.Want.{Want}
 use Rattle.dw_journal.specs.Worlds.{given_at, statement_at}
 use Rattle.dw_journal.specs.History.{History, with_event, session_of, is_of, newest_event, statements_taken, statements_after}
 use Rattle.dw_journal.specs.Blocks.{block_of, block_after}
 use Rattle.dw_journal.specs.Transactions.{Transaction, transaction_of, transaction_after, opened_statements, opened_after, opened_in, answered_in, snapshot_in, snapshot_of, taken_over, objects_by, commits}
 use Rattle.dw_journal.specs.Vacuums.{swept_by, swept_after}
-use Rattle.dw_journal.specs.Locks.{wants_of}
 use Rattle.dw_journal.specs.Routes.{refreshed}
 use Rattle.dw_journal.specs.Turns.{Turn, Works, call_of_statement, answered_turn, taking, turn_after}
 use Rattle.dw_journal.specs.Legal.{snapshot_due, snapshot_in_or}
@@ -210,41 +208,14 @@ are_sets history session kept is_kept one one_is = by_snapshot (snapshot_of sess
           named = subst IsAscendingObjects (sym (subst HasNames one_is is_kept.names)) reads;
         }
 
--- An event that leaves locks, vacuums and clusters as they are, but that a transaction may end; what is opened sees what its
--- transaction sees.
+-- An event that leaves vacuums and clusters as they are; what is opened sees what its transaction sees.
 abbrev pub IsCalm : History → Event → Type 0
-IsCalm history (Opened session statement snapshot route) =
-    (wants_of history.world session statement ≡ []) × (snapshot ≡ snapshot_due history session)
+IsCalm history (Opened session statement snapshot route) = snapshot ≡ snapshot_due history session
 IsCalm history (VacuumBegin session statement table) = ⊥
 IsCalm history (Refresh cluster stamp) = ⊥
 IsCalm history event = Unit {0}
 
 module _ (history : History) where
-  abbrev wanted : ℕ → List ℕ → List Want
-  wanted session statements = flat_map (wants_of history.world session) statements
-
-  wanted_own : (event : Event) (session : ℕ) → IsCalm history event → is_of session event ≡ true → wanted session (opened_statements session history.events) ≡ []
-      → wanted session (opened_after event (opened_statements session history.events)) ≡ []
-  wanted_own (Opened other statement snapshot route) session calm own none =
-      let same : other ≡ session = eqb-true other session own in
-      let first : wants_of history.world session statement ≡ [] = subst (λ (n : ℕ). wants_of history.world n statement ≡ []) same calm.0 in
-      ap (λ (wants : List Want). wants ++ wanted session (opened_statements session history.events)) first ∙ none
-  wanted_own (Commit other statement stamp low high) session calm own none = refl
-  wanted_own (Violation other statement low high object) session calm own none = refl
-  wanted_own (Refuse other statement refusal) session calm own none = refl
-  wanted_own (Rollback other statement) session calm own none = refl
-  wanted_own (End other) session calm own none = refl
-  wanted_own event session calm own none = none
-
-  wanted_by : (event : Event) (session : ℕ) (b : Bool) → is_of session event ≡ b → IsCalm history event → wanted session (opened_statements session history.events) ≡ []
-      → wanted session (if b then opened_after event (opened_statements session history.events) else opened_statements session history.events) ≡ []
-  wanted_by event session true own calm none = wanted_own event session calm own none
-  wanted_by event session false own calm none = none
-
-  pub still_unwanted : (event : Event) (session : ℕ) → IsCalm history event → wanted session (opened_statements session history.events) ≡ []
-      → wanted session (opened_statements session (event ∷ history.events)) ≡ []
-  still_unwanted event session calm none = wanted_by event session (is_of session event) refl calm none
-
   swept_own : (event : Event) (before : Option (List ℕ)) → IsCalm history event → before ≡ None → swept_after event before ≡ None
   swept_own (VacuumBegin other statement table) before calm none = absurd calm
   swept_own (VacuumEnd other statement) before calm none = refl
@@ -277,7 +248,7 @@ module _ (history : History) where
         → IsWithin oldest (commits history.events) (snapshot_in (transaction_after event (transaction_of session history.events)))
     within_own (Opened other statement snapshot route) session calm own within =
         let same : other ≡ session = eqb-true other session own in
-        opened_within snapshot (transaction_of session history.events) (subst (λ (n : ℕ). snapshot ≡ snapshot_due history n) same calm.1) within
+        opened_within snapshot (transaction_of session history.events) (subst (λ (n : ℕ). snapshot ≡ snapshot_due history n) same calm) within
     within_own (Answer other statement answer) session calm own within = answered_within statement answer (transaction_of session history.events) within
     within_own (Commit other statement stamp low high) session calm own within = tt
     within_own (Violation other statement low high object) session calm own within = tt

@@ -2,27 +2,41 @@
 use Rattle.std.proofs.Common.{◌≡◌, ℕ, ◌+◌, ◌≤◌, [], refl, sym, ap, subst, ◌∙◌}
 use Rattle.std.specs.Prelude.{Option, Some}
 use Rattle.dw_model.specs.declared.statements.Statement.{Statement}
+use Rattle.dw_model.specs.declared.statements.Statement.TheVariants as forms
 use Rattle.dw_journal.specs.declared.Event.TheVariants.{Opened}
+use Rattle.dw_journal.specs.declared.Given.{Given}
+use Rattle.dw_journal.specs.declared.Given.TheVariants.{Read}
 use Rattle.dw_journal.specs.declared.Route.{Route}
 use Rattle.dw_journal.specs.Worlds.{given_at, read_in, statement_at}
 use Rattle.dw_journal.specs.History.{History, newest_event, statements_taken}
 use Rattle.dw_journal.specs.Blocks.{block_of}
 use Rattle.dw_journal.specs.Transactions.{opened_statements, transaction_of}
-use Rattle.dw_journal.specs.Locks.{wants_in, wants_of}
-use Rattle.dw_journal.specs.Turns.{Works, call_of_statement, turn_after}
+use Rattle.dw_journal.specs.Turns.{Works, call_of, call_of_statement, turn_after}
 use Rattle.dw_journal.specs.Follows.{EachFollows}
-use Rattle.dw_journal.specs.Legal.{IsLegalOpened, IsNextEvent, snapshot_due}
+use Rattle.dw_journal.specs.Legal.{IsLegalOpened, IsNextEvent, blockers_of, snapshot_due}
 use Rattle.dw_journal.proofs.OneEvent.{turn_given, works_statement}
 use Rattle.dw_journal.proofs.OpenedStatements.{AreAnswered, settled_at}
 use Rattle.dw_core.proofs.DueEvents.{told}
 use Rattle.dw_core.proofs.KeptSessions.{next_is}
-use Rattle.dw_core.proofs.NoLocks.{work_called, work_wants}
+
+-- the statement that is called for is of that form
+work_called : (given : Given) (statement : Statement) → call_of given ≡ Works statement → call_of_statement statement ≡ Works statement
+work_called (Read (forms.Create spec)) statement is =
+    let same : forms.Create spec ≡ statement = cc in
+    subst (λ (s : Statement). call_of_statement s ≡ Works s) same refl
+work_called (Read (forms.Insert table rows)) statement is =
+    let same : forms.Insert table rows ≡ statement = cc in
+    subst (λ (s : Statement). call_of_statement s ≡ Works s) same refl
+work_called (Read (forms.Select query)) statement is =
+    let same : forms.Select query ≡ statement = cc in
+    subst (λ (s : Statement). call_of_statement s ≡ Works s) same refl
+work_called given statement is = cc
 
 pub record IsOpenedNext (history : History) (session k snapshot : ℕ) : Type 0 where
   pub statement : Statement
   pub there : statement_at history.world session k ≡ Some statement
   pub works : call_of_statement statement ≡ Works statement
-  pub wants : wants_of history.world session k ≡ []
+  pub free : blockers_of history session k ≡ []
   pub sees : snapshot ≡ snapshot_due history session
   pub settled : AreAnswered (opened_statements session history.events) (transaction_of session history.events)
 
@@ -45,7 +59,7 @@ opened_next history session k snapshot route first each next =
       statement = turn.0;
       there = there;
       works = works;
-      wants = ap wants_in there ∙ work_wants turn.0 works;
+      free = legal.0;
       sees = legal.2;
       settled = settled_at history.shape history.world history.events each session event refl next.0 refl;
     }

@@ -1,5 +1,6 @@
 -- How an event of a session changes what is kept of it.
 use Rattle.std.specs.Prelude.{◌≡◌, ℕ, Bool, true, false, if◌then◌else◌, [], Option, Some, None}
+use Rattle.std.specs.List.{slice_set}
 use Rattle.dw_model.specs.declared.statements.Statement.{Statement}
 use Rattle.dw_model.specs.Objects.{reads_of, writes_of, with_objects, IsAscendingObjects}
 use Rattle.dw_journal.specs.declared.BlockState.{BlockState}
@@ -11,6 +12,7 @@ use Rattle.dw_journal.specs.History.{History, statements_after}
 use Rattle.dw_journal.specs.Blocks.{block_after}
 use Rattle.dw_journal.specs.Transactions.{objects_by}
 use Rattle.dw_journal.specs.Turns.{AnswerOf, number_due, turn_of}
+use Rattle.dw_locks.specs.LockTable.{LockTable, free_entry}
 use Rattle.dw_core.specs.declared.sessions.Session.{Session}
 use Rattle.dw_core.specs.declared.sessions.Stage.{Stage}
 use Rattle.dw_core.specs.declared.sessions.Stage.TheVariants as stages
@@ -38,6 +40,11 @@ ends_transaction (Refuse session statement refusal) = true
 ends_transaction (Rollback session statement) = true
 ends_transaction (End session) = true
 ends_transaction event = false
+
+-- the table of locks once the session has this event: a transaction that ends releases its locks; what an opened statement
+-- is granted, and what a session waits for, is in the table before
+abbrev pub locks_after : Event → ℕ → LockTable → LockTable
+locks_after event session table = if ends_transaction event then slice_set table session free_entry else table
 
 -- what is kept of a session once it has this event; what an opened statement takes is kept before
 abbrev pub session_after : World → Event → Session → Session

@@ -1,5 +1,5 @@
 -- What a core keeps of its sessions is what its history says of them.
-use Rattle.std.specs.Prelude.{◌≡◌, ℕ, ◌+◌, ◌-◌, ◌≤◌, true, List, [], length, flat_map, slice_get, Option, Some, None, is_some, option_map}
+use Rattle.std.specs.Prelude.{◌≡◌, ℕ, ◌+◌, ◌-◌, ◌≤◌, true, List, length, slice_get, Option, Some, None, is_some, option_map}
 use Rattle.std.specs.List.{sum_by}
 use Rattle.dw_model.specs.declared.statements.Statement.{Statement}
 use Rattle.dw_journal.specs.declared.BlockState.{BlockState}
@@ -13,12 +13,13 @@ use Rattle.dw_journal.specs.History.{History, newest_event, statements_taken}
 use Rattle.dw_journal.specs.Blocks.{block_of}
 use Rattle.dw_journal.specs.Transactions.{Transaction, transaction_of, opened_statements, snapshot_in, snapshot_of, taken_over, commits}
 use Rattle.dw_journal.specs.Vacuums.{swept_by}
-use Rattle.dw_journal.specs.Locks.{wants_of}
+use Rattle.dw_journal.specs.Locks.{lock_state}
 use Rattle.dw_journal.specs.Routes.{refreshed}
 use Rattle.dw_journal.specs.Turns.{Turn, Nothing, AnswerOf, CommitOf, Works, call_of_statement, taking, turn_after}
 use Rattle.dw_journal.specs.Follows.{EachFollows}
 use Rattle.dw_journal.specs.Legal.{EachIsLegal, certified}
 use Rattle.dw_ssn.specs.Summaries.{Summaries, StandsFor}
+use Rattle.dw_locks.specs.LockTable.{LockTable, StandsForLocks}
 use Rattle.dw_core.specs.Pruned.{pruned_at}
 use Rattle.dw_core.specs.declared.sessions.Session.{Session}
 use Rattle.dw_core.specs.declared.sessions.Stage.{Stage}
@@ -92,10 +93,10 @@ IsWithin oldest commits None = Unit {0}
 IsWithin oldest commits (Some snapshot) = (oldest ≤ snapshot) × (snapshot ≤ commits)
 
 -- The parts of a core agree with its history. The certifier stands for all commits, with the horizon just after the
--- newest one as its oldest number. There are so many events, with room for so many. No statement has wanted a lock yet,
--- no vacuum runs, and no cluster is attached.
-pub record CoreInvariant (history : History) (sessions : List Session) (certifier : Summaries) (count capacity : ℕ)
-    : Type 0 where
+-- newest one as its oldest number. The table of locks stands for the locks of the history: no grant stands there before
+-- its statement is opened. There are so many events, with room for so many. No vacuum runs, and no cluster is attached.
+pub record CoreInvariant (history : History) (sessions : List Session) (certifier : Summaries) (table : LockTable)
+    (count capacity : ℕ) : Type 0 where
   pub number : length sessions ≡ session_count history.world
   pub shaped : history.shape.sessions ≡ session_count history.world
   pub short : AreShort history.world.scripts
@@ -104,8 +105,7 @@ pub record CoreInvariant (history : History) (sessions : List Session) (certifie
   pub stands : StandsFor certifier (record { oldest = pruned_at history; commits = certified history })
   pub snapshots : (session : ℕ) → IsSession history.world session
       → IsWithin certifier.oldest (commits history.events) (snapshot_of session history.events)
-  pub unwanted : (session : ℕ)
-      → flat_map (wants_of history.world session) (opened_statements session history.events) ≡ []
+  pub locks : StandsForLocks table (lock_state history)
   pub unswept : (session : ℕ) → swept_by session history.events ≡ None
   pub unattached : (cluster : ℕ) → refreshed cluster history.events ≡ None
   pub follows : EachFollows history.shape history.world history.events

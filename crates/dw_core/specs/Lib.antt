@@ -6,3 +6,5 @@ pub mod Changes
 pub mod Pruned
 pub mod CoreInvariant
 pub mod Horizons
+pub mod Asking
+pub mod Waits

@@ -1,17 +1,19 @@
 //! The core: which event may come next of each session, and the calls that append it.
-ghost use Rattle.std.specs.Prelude.{◌≡◌, ◌+◌, ◌*◌, ◌<◌, ◌≤◌, [], ◌∷◌, ℕ, List as Items, None, Some, vec_len, vec_capacity, OnOk, OnErr, IfOk, IfSome};
+ghost use Rattle.std.specs.Prelude.{◌≡◌, ◌+◌, ◌*◌, ◌<◌, ◌≤◌, [], ◌∷◌, ℕ, None, Some, vec_len, vec_capacity, OnOk, OnErr, IfOk, IfSome};
 ghost use Rattle.std.specs.Option.{option_copied};
 ghost use Rattle.dw_journal.specs.declared.Event.TheVariants as event;
-ghost use Rattle.dw_journal.specs.declared.locks.Want.{Want};
 ghost use Rattle.dw_journal.specs.Worlds.{AreShort, IsSession, given_at, session_count};
 ghost use Rattle.dw_journal.specs.History.{events_of, session_of, with_event};
 ghost use Rattle.dw_journal.specs.Blocks.{block_of};
 ghost use Rattle.dw_journal.specs.Transactions.{commits, taken_of};
 ghost use Rattle.dw_journal.specs.Vacuums.{swept_by};
-ghost use Rattle.dw_journal.specs.Locks.{blockers, lock_state};
+ghost use Rattle.dw_journal.specs.Locks.{lock_state, wants_of};
 ghost use Rattle.dw_journal.specs.Turns.{AnswerOf, number_due, turn_of};
 ghost use Rattle.dw_journal.specs.Follows.{FollowsAfter};
-ghost use Rattle.dw_journal.specs.Legal.{IsLegal, IsNextEvent, certified, high_of, low_of, snapshot_due};
+ghost use Rattle.dw_journal.specs.Legal.{IsLegal, IsLockWait, IsNextEvent, blockers_of, certified, cycle_of, high_of, low_of, snapshot_due};
+ghost use Rattle.dw_locks.specs.Holders.{exclusive_holder_by};
+ghost use Rattle.dw_locks.specs.Requests.{answer_by};
+ghost use Rattle.dw_core.specs.Asking.{HasWaited, IsAnswered, IsToAsk};
 ghost use Rattle.dw_core.specs.Changes.{HasRoomKept, IsPlain};
 ghost use Rattle.dw_core.specs.CoreInvariant.{IsKept};
 ghost use Rattle.dw_core.specs.DueEvents.{commit_due, decision_of, opening_due, route_due};
@@ -21,12 +23,14 @@ ghost use Rattle.dw_core.specs.Readers.{MeansTurn};
 ghost use Rattle.dw_core.specs.Traces.{LeavesNoTrace, LeavesUnlessStamped};
 
 use crate::decisions::{Committed, decide, settle};
+use crate::grants::grant_and_open;
 use crate::sessions::{Session, Stage, given, put};
-use crate::transactions::open;
-use dw_journal::{BlockState, Event, Given, Journal, Route, Shape, World, place_of};
+use crate::waits::is_newest_wait;
+use dw_journal::{BlockState, Event, Given, Journal, Route, Shape, Want, World, place_of};
+use dw_locks::{Asked, Locks, wants};
 use dw_model::{Answer, FileMap, Refusal, Word};
 use dw_ssn::{Certifier, Marks, Taken};
-use dw_value::List;
+use dw_value::{List, Text};
 use std::alloc::{AllocError, Global};
 use std::marker::Model;
 
@@ -54,6 +58,7 @@ pub struct Core {
     events: Vec<Event>,
     sessions: Vec<Session>,
     certifier: Certifier,
+    locks: Locks,
 }
 
 impl Model for Core {
@@ -72,7 +77,7 @@ impl Model for Core {
 
     ghost invariant = { λ core. CoreInvariant
         (record { shape = core.shape; world = core.world; events = reverse core.events.items })
-        core.sessions.items core.certifier (vec_len core.events) (vec_capacity core.events) };
+        core.sessions.items core.certifier core.locks (vec_len core.events) (vec_capacity core.events) };
 }
 
 impl Core {
@@ -87,12 +92,14 @@ impl Core {
         for _ in 0..shape.sessions {
             sessions.push(Session::fresh())?;
         }
+        let locks = Locks::new(alloc, shape.sessions)?;
         Ok(Core {
             shape,
             world,
             events: Vec::new(alloc),
             sessions,
             certifier: Certifier::new(alloc),
+            locks,
         })
     }
 
@@ -192,13 +199,92 @@ impl Core {
         }
     }
 
-    /// Asks for locks. They are granted at once: no statement locks a table yet and no vacuum runs, so no other session
-    /// stands in the way.
-    pub fn ask(&self, session: u32)
+    /// The locks that the session's next statement wants.
+    pub fn wants(&self, session: u32) -> Result<List<Want>, AllocError>
         requires session { IsSession self.now.world session }
-        ensures { (asked : Items Want) → blockers (lock_state self.now) session asked ≡ [] }
+        ensures { IfOk result (λ wants. wants ≡ wants_of self.now.world session (number_due self.now session)) }
     {
-        let _events = &self.events;
+        wants(*self.events.allocator(), self.given(session))
+    }
+
+    /// Asks for the locks of the session's next statement, which are all those that it wants. Where nobody stands in
+    /// their way, nothing happens: `opened` grants them. Else the session waits for those who do, which is an event
+    /// where it didn't wait for just these before; or, where it would close a cycle, the statement is refused, and its
+    /// transaction ends without a trace. Where memory runs out, nothing has happened.
+    pub fn ask(&mut self, session: u32, wants: &List<Want>) -> Result<Asked, AllocError>
+        requires session { IsSession self.old.world session }
+        requires work { IsToAsk self.old session }
+        requires wants { wants.now ≡ wants_of self.old.world session (number_due self.old session) }
+        ensures ok { IfOk result (λ asked. IsAnswered self.old session asked self.new) }
+        ensures err { OnErr result (self.new ≡ self.old) }
+    {
+        let asked = self.answer(session, wants)?;
+        match &asked {
+            Asked::Granted => {}
+            Asked::Waits { holders } => self.wait(session, wants, holders)?,
+            Asked::Deadlock { cycle } => {
+                let cycle = cycle.copy()?;
+                self.declined(session, Refusal::Deadlock { cycle })?;
+            }
+        }
+        Ok(asked)
+    }
+
+    /// What the session is answered if it asks for these locks.
+    fn answer(&self, session: u32, wants: &List<Want>) -> Result<Asked, AllocError>
+        requires session { IsSession self.now.world session }
+        requires wants { wants.now ≡ wants_of self.now.world session (number_due self.now session) }
+        ensures { IfOk result (λ asked. asked
+            ≡ answer_by (blockers_of self.now session (number_due self.now session))
+            (cycle_of self.now session (number_due self.now session))) }
+    {
+        self.locks.answer(session, wants)
+    }
+
+    /// The session waits for these holders of locks in the way of what it wants. Where it waits for just these by its
+    /// newest event, or where memory runs out, nothing happens.
+    fn wait(
+        &mut self,
+        session: u32,
+        wants: &List<Want>,
+        holders: &List<u32>,
+    ) -> Result<(), AllocError>
+        requires session { IsSession self.old.world session }
+        requires work { IsToAsk self.old session }
+        requires wants { wants.now ≡ wants_of self.old.world session (number_due self.old session) }
+        requires waits { IsLockWait self.old session (number_due self.old session) holders.now }
+        ensures ok { OnOk result (HasWaited self.old session holders.now self.new) }
+        ensures err { OnErr result (self.new ≡ self.old) }
+    {
+        let statement = self.number_due(session);
+        if is_newest_wait(self.events.as_slice(), session, statement, holders) {
+            return Ok(());
+        }
+        let holders = holders.copy()?;
+        make_room(&mut self.events, self.shape.sessions)?;
+        let _waits = self.locks.request(session, wants)?;
+        let event = Event::Wait {
+            session,
+            statement,
+            holders,
+        };
+        put(
+            &self.world,
+            &mut self.locks,
+            &mut self.sessions,
+            &mut self.events,
+            session,
+            event,
+        );
+        Ok(())
+    }
+
+    /// The least session, the background worker among them, that holds an `AccessExclusive` lock on the table. It takes
+    /// no memory.
+    pub fn holder(&self, table: &Text) -> Option<u32>
+        ensures { result ≡ exclusive_holder_by (lock_state self.now) table.now }
+    {
+        self.locks.holder(table)
     }
 
     /// The event of the session has happened. Where memory runs out, nothing has.
@@ -213,6 +299,7 @@ impl Core {
         make_room(&mut self.events, self.shape.sessions)?;
         put(
             &self.world,
+            &mut self.locks,
             &mut self.sessions,
             &mut self.events,
             session,
@@ -232,6 +319,7 @@ impl Core {
     {
         put(
             &self.world,
+            &mut self.locks,
             &mut self.sessions,
             &mut self.events,
             session,
@@ -358,8 +446,8 @@ impl Core {
         }
     }
 
-    /// The session's next statement is opened, which begins a transaction where none is open, and it gives where the
-    /// statement is worked on. Where memory runs out, nothing has happened.
+    /// The session's next statement is opened: it is granted the locks that it wants, begins a transaction where none is
+    /// open, and it gives where the statement is worked on. Where memory runs out, nothing has happened.
     pub fn opened(&mut self, session: u32) -> Result<Route, AllocError>
         requires session { IsSession self.old.world session }
         requires comes { IsNextEvent self.old (opening_due self.old session) }
@@ -369,11 +457,18 @@ impl Core {
     {
         let statement = self.number_due(session);
         let snapshot = self.snapshot_due(session);
-        let alloc = *self.events.allocator();
+        let wants = self.wants(session)?;
         make_room(&mut self.events, self.shape.sessions)?;
         let given = given(&self.world, session, statement as usize);
         let kept = &mut self.sessions[place_of(session)];
-        open(alloc, &mut kept.transaction, given, snapshot)?;
+        grant_and_open(
+            &mut self.locks,
+            session,
+            &wants,
+            &mut kept.transaction,
+            given,
+            snapshot,
+        )?;
         let event = Event::Opened {
             session,
             statement,
@@ -382,6 +477,7 @@ impl Core {
         };
         put(
             &self.world,
+            &mut self.locks,
             &mut self.sessions,
             &mut self.events,
             session,
@@ -407,6 +503,7 @@ impl Core {
         let (decided, event) = decide(&mut self.certifier, session, statement, transaction);
         put(
             &self.world,
+            &mut self.locks,
             &mut self.sessions,
             &mut self.events,
             session,

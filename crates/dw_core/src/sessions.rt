@@ -1,17 +1,18 @@
 //! What is kept of each session, and how its events change that.
-ghost use Rattle.std.specs.Prelude.{◌≡◌, ◌-◌, ◌+◌, ◌<◌, ◌≤◌, ◌++◌, [], ◌∷◌, ℕ, Some, None, slice_get, vec_len, vec_capacity};
+ghost use Rattle.std.specs.Prelude.{◌≡◌, ◌-◌, ◌+◌, ◌<◌, ◌≤◌, ◌++◌, [], ◌∷◌, ℕ, Some, None, length, slice_get, vec_len, vec_capacity};
 ghost use Rattle.std.specs.Option.{option_copied};
 ghost use Rattle.std.specs.List.{slice_set};
 ghost use Rattle.dw_journal.specs.Worlds.{given_at, read_in};
 ghost use Rattle.dw_journal.specs.History.{statements_after};
 ghost use Rattle.dw_journal.specs.Blocks.{block_after, block_refused, passed_in};
-ghost use Rattle.dw_core.specs.Changes.{answered_stage, ends_transaction, session_after, stage_after};
+ghost use Rattle.dw_core.specs.Changes.{answered_stage, ends_transaction, locks_after, session_after, stage_after};
 ghost use Rattle.dw_core.specs.declared.sessions.Session.{Session as Kept};
 ghost use Rattle.dw_journal.specs.declared.BlockState.TheVariants as blocks;
 ghost use Rattle.dw_core.specs.declared.sessions.Stage.TheVariants as stage;
 
 use crate::transactions::Transaction;
 use dw_journal::{BlockState, Event, Given, World, place_of};
+use dw_locks::Locks;
 use dw_model::{Refusal, Statement, Word};
 
 /// How far a session has come with the last statement that it took.
@@ -64,9 +65,11 @@ impl Session {
     }
 }
 
-/// The event is put after the others, for which there is room, and its session has it.
+/// The event is put after the others, for which there is room, and its session has it. Where its transaction ends, its
+/// locks are released.
 pub(crate) fn put(
     world: &World,
+    locks: &mut Locks,
     sessions: &mut Vec<Session>,
     events: &mut Vec<Event>,
     session: u32,
@@ -74,13 +77,18 @@ pub(crate) fn put(
 )
     requires first { 1 ≤ session }
     requires within { session - 1 < vec_len sessions.old }
+    requires locked { session < length locks.old }
     requires room { vec_len events.old < vec_capacity events.old }
+    ensures locks { locks.new ≡ locks_after event session locks.old }
     ensures kept { (kept : Kept) → slice_get sessions.old.items (session - 1) ≡ Some kept
         → sessions.new.items ≡ slice_set sessions.old.items (session - 1) (session_after world.now event kept) }
     ensures items { events.new.items ≡ events.old.items ++ event ∷ [] }
     ensures len { vec_len events.new ≡ vec_len events.old + 1 }
     ensures capacity { vec_capacity events.old ≤ vec_capacity events.new }
 {
+    if ends_transaction(&event) {
+        locks.release(session);
+    }
     sessions[place_of(session)].advance(world, &event);
     let _ = events.push(event);
 }

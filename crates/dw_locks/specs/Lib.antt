@@ -4,3 +4,4 @@ pub mod Grants
 pub mod Requests
 pub mod Cycles
 pub mod Lasting
+pub mod Holders

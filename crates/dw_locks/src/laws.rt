@@ -8,16 +8,19 @@ ghost use Rattle.dw_journal.specs.declared.Route.{Route as Way};
 ghost use Rattle.dw_journal.specs.History.{newest_event, session_of};
 ghost use Rattle.dw_journal.specs.Locks.{LockState, Wants, blockers, deadlock_cycle, held_locks, would_wait_for};
 ghost use Rattle.dw_locks.specs.Cycles.{IsCycle};
+ghost use Rattle.dw_locks.specs.Holders.{exclusive_holder_by};
 ghost use Rattle.dw_locks.specs.Lasting.{after_event};
-ghost use Rattle.dw_locks.specs.LockTable.{HaveSame, LockEntry, LockTable, StandsForLocks, entry_of, free_entry, granted, table_blockers, table_cycle, waiting, wants_waited, withdrawn};
+ghost use Rattle.dw_locks.specs.LockTable.{HaveSame, LockEntry, LockTable, StandsForLocks, entry_of, exclusive_holder, free_entry, granted, table_blockers, table_cycle, waiting, wants_waited, withdrawn};
 
 /// Where a table stands for the locks that the events of a journal tell of, it gives what those give: who blocks a
-/// session, and the cycle that the session would close.
+/// session, the cycle that the session would close, and who holds a table for itself alone.
 pub fn table_answers_as_events_do()
     ensures blockers { (table : LockTable) (state : LockState) → StandsForLocks table state →
         (session : ℕ) (asked : Items Lock) → table_blockers table session asked ≡ blockers state session asked }
     ensures cycle { (table : LockTable) (state : LockState) → StandsForLocks table state →
         (session : ℕ) (asked : Items Lock) → table_cycle table session asked ≡ deadlock_cycle state session asked }
+    ensures holder { (table : LockTable) (state : LockState) → StandsForLocks table state →
+        (name : Items ℕ) → exclusive_holder table name ≡ exclusive_holder_by state name }
 {}
 
 /// A grant leaves the locks that were held and those that were asked for, though one that was held already is kept

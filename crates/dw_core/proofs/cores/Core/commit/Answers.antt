@@ -11,7 +11,7 @@ use Rattle.dw_core.specs.Changes.{session_after}
 use Rattle.dw_core.specs.CoreInvariant.{HasNames}
 use Rattle.dw_core.specs.DueEvents.{commit_due, decision_of}
 use Rattle.dw_core.specs.Traces.{LeavesUnlessStamped}
-use Rattle.dw_core.proofs.Committing.{decided_alike, decided_calm, decision, leaves_none, not_none, oldest_kept, owes_one}
+use Rattle.dw_core.proofs.Committing.{decided_alike, decided_calm, decision, decision_ends, decision_of_it, leaves_none, not_none, oldest_kept, owes_one}
 use Rattle.std.specs.List.{filter_map}
 use Rattle.dw_journal.specs.Worlds.{session_count}
 use Rattle.dw_journal.specs.Transactions.{commits, open_snapshots, snapshot_of}
@@ -25,8 +25,10 @@ use Rattle.dw_core.proofs.Horizons.{settled_open, settled_stands, snapshots_kept
 use Rattle.dw_core.proofs.NextEvents.{are_sets}
 use Rattle.dw_core.proofs.CoreSteps.{agrees_after, each_after, length_set, pruned, still_open, has_room, newest_first, room_owed, set_after}
 use Rattle.dw_core.proofs.KeptSessions.{found}
-use Rattle.dw_core.proofs.NextEvents.{still_unswept, still_unwanted}
-use Rattle.dw_core.proofs.NoLocks.{none_held}
+use Rattle.dw_core.proofs.Locking.{ended_locked, none_held}
+use Rattle.dw_locks.specs.LockTable.{LockTable, StandsForLocks}
+use Rattle.dw_journal.specs.Locks.{lock_state}
+use Rattle.dw_core.specs.Changes.{locks_after}
 use Rattle.dw_core.proofs.cores.Core.commit.Goals as goal
 
 pub unreachable-requires : goal.unreachable-requires
@@ -69,7 +71,7 @@ put-requires-clause-room c =
     let is : IsSession i.world session = subst (λ (h : History). IsSession h.world session) (sym c.self.view_is) c.requires.session in
     let follows = subst (λ (h : History). FollowsAfter h (commit_due h session)) (sym c.self.view_is) c.requires.follows in
     let there = found i.sessions.items c.place_of.result session kept c.place_of.ensures (omega (arith, c.place_of.ensures, core.number, is.0, is.1)) c.index_mut.ensures.value in
-    has_room history i.sessions.items i.certifier _ _ core session is kept there
+    has_room history i.sessions.items i.certifier i.locks _ _ core session is kept there
     (owes_one history session is kept (core.each session kept is.0 there) (number_due history session) _ _ _ follows)
 
 pub invariant_of-self : goal.invariant_of-self
@@ -100,12 +102,12 @@ invariant_of-self c =
     ∙ ap (set i.sessions.items (session - 1)) (decided_alike history session k result kept) in
     let newer = ap reverse (c.put.ensures.items ∙ ap (λ (e : Event). i.events.items ++ e ∷ []) event_is) ∙ newest_first i.events.items event in
     let owes = owes_one history session is kept is_kept k _ _ _ follows in
-    let room = room_owed history i.sessions.items i.certifier _ _ core session is kept (session_after i.world event kept) _ _ _ there changed c.put.ensures.len c.put.ensures.capacity (omega (arith, owes, ok.owes_none)) in
+    let room = room_owed history i.sessions.items i.certifier i.locks _ _ core session is kept (session_after i.world event kept) _ _ _ there changed c.put.ensures.len c.put.ensures.capacity (omega (arith, owes, ok.owes_none)) in
     let calm = decided_calm history session k result in
     let now = session_after i.world event kept in
-    let each = each_after history i.sessions.items i.certifier _ _ core session is event ok.of_it ok.next calm now ok.is_kept_now in
-    let within = still_open history i.sessions.items i.certifier _ _ core session is event ok.of_it ok.next calm now ok.is_kept_now in
-    let among : i.certifier.oldest ≤ commits (event ∷ history.events) = omega (arith, pruned history i.sessions.items i.certifier _ _ core session is, commits-event event history.events) in
+    let each = each_after history i.sessions.items i.certifier i.locks _ _ core session is event ok.of_it ok.next calm now ok.is_kept_now in
+    let within = still_open history i.sessions.items i.certifier i.locks _ _ core session is event ok.of_it ok.next calm now ok.is_kept_now in
+    let among : i.certifier.oldest ≤ commits (event ∷ history.events) = omega (arith, pruned history i.sessions.items i.certifier i.locks _ _ core session is, commits-event event history.events) in
     let sessions_are = c.as_slice.ensures.value ∙ changed in
     let open_are : filter_map kept_snapshot c.as_slice.result.now ≡ open_snapshots (session_count i.world) (event ∷ history.events) =
     ap (filter_map kept_snapshot) sessions_are
@@ -113,7 +115,10 @@ invariant_of-self c =
     let settled = c.settle.ensures after decides.1 in
     let stands = settled_stands history session k i.certifier.oldest core.stands.oldest_is c.settle.new.certifier result after c.as_slice.result.now settled ok.certified_now (ok.oldest_now ∙ sym core.stands.oldest_is) open_are within among in
     let opens = settled_open history session k i.certifier.oldest core.stands.oldest_is result within in
-    agrees_after history i.sessions.items i.certifier _ _ core session is event ok.of_it ok.next calm now ok.is_kept_now _ _ c.settle.new.certifier _ _ newer changed stands
+    let locked_is = c.put.ensures.locks ∙ ap (λ (e : Event). locks_after e session i.locks) event_is in
+    let locks = subst (λ (t : LockTable). StandsForLocks t (lock_state (with_event history event))) (sym locked_is)
+    (ended_locked history i.locks core.locks session is (core.unswept session) event ok.of_it (decision_ends session k result)) in
+    agrees_after history i.sessions.items i.certifier i.locks _ _ core session is event ok.of_it ok.next calm now ok.is_kept_now _ _ c.settle.new.certifier _ _ _ newer changed locks stands
     (λ other is_other. subst (λ (n : ℕ). IsWithin n (commits (event ∷ history.events)) (snapshot_of other (event ∷ history.events))) (sym stands.oldest_is) (opens other is_other)) room
 
 pub returns-clause-comes : goal.returns-clause-comes
@@ -142,8 +147,7 @@ returns-clause-trace c =
     let k = c.number_due-statement.result in
     let result = c.decide-decided.result.0 in
     let event = decision_of session k result in
-    let calm = decided_calm history session k result in
-    let held = none_held (with_event history event) (λ other. still_unwanted history event other calm (core.unwanted other)) (λ other. still_unswept history event other calm (core.unswept other)) session in
+    let held = none_held history session (core.unswept session) event (decision_of_it session k result) (decision_ends session k result) in
     let newer = ap reverse (c.put.ensures.items ∙ ap (λ (e : Event). i.events.items ++ e ∷ []) c.decide-decided.ensures.event) ∙ newest_first i.events.items event in
     subst (λ (h : History). LeavesUnlessStamped result h session (record { shape = i.shape; world = i.world; events = reverse c.put.new.events.items })) c.self.view_is
     (subst (λ (events : List Event). LeavesUnlessStamped result history session (record { shape = i.shape; world = i.world; events = events })) (sym newer) (leaves_none history session k result held))

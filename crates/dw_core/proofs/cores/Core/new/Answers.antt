@@ -15,5 +15,5 @@ loop-preserved c =
 
 pub invariant_of-result : goal.invariant_of-result
 invariant_of-result c =
-    agrees_new c.args.shape c.args.world c.new.result.items c.loop.sessions.items c.new-2.result _ _ c.new.ensures.items c.loop.invariant.1 c.new-2.ensures.stands c.new.ensures.len
+    agrees_new c.args.shape c.args.world c.new-2.result.items c.loop.sessions.items c.new-3.result _ _ _ c.new-2.ensures.items c.loop.invariant.1 c.new-3.ensures.stands c.in_ok-locks.ensures c.new-2.ensures.len
     (omega (arith, c.loop.invariant.0, c.loop-test.false, c.requires.sessions)) c.requires.sessions c.requires.short
