@@ -1,5 +1,5 @@
 -- What asking for the locks of a session's next statement is answered, and what comes of it.
-use Rattle.std.specs.Prelude.{◌≡◌, ◌≢◌, ◌⊎◌, ℕ, List, [], Some}
+use Rattle.std.specs.Prelude.{◌≡◌, ◌≢◌, ◌<◌, ◌⊎◌, ℕ, List, [], length, Some}
 use Rattle.dw_model.specs.declared.refusals.Refusal.TheVariants as refusals
 use Rattle.dw_model.specs.declared.statements.Statement.{Statement}
 use Rattle.dw_journal.specs.declared.BlockState.TheVariants.{Aborted}
@@ -42,6 +42,7 @@ IsAnswered before session Granted after =
 IsAnswered before session (Waits holders) after =
     IsLockWait before session (number_due before session) holders × HasWaited before session holders after
 IsAnswered before session (Deadlock cycle) after =
-    (cycle_of before session (number_due before session) ≡ Some cycle)
+    (0 < length (blockers_of before session (number_due before session)))
+    × (cycle_of before session (number_due before session) ≡ Some cycle)
     × IsNextEvent before (deadlock_due before session cycle)
     × (after ≡ with_event before (deadlock_due before session cycle)) × LeavesNoTrace before session after

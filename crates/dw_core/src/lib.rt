@@ -12,7 +12,6 @@ mod waits;
 
 pub use cores::{Core, Next};
 pub use decisions::Committed;
-pub use dw_locks::Asked;
 
 #[cfg(test)]
 mod tests;

@@ -6,3 +6,4 @@ mod ViewLemmas
 mod Replies
 mod Commits
 pub mod ScriptLemmas
+pub mod NoWants

@@ -1,8 +1,11 @@
 //! The opening of a statement that is run on what its session sees.
-ghost use Rattle.std.specs.Prelude.{◌≡◌, OnOk, OnErr, IfOk};
+ghost use Rattle.std.specs.Prelude.{◌≡◌, ◌≢◌, [], OnOk, OnErr, IfOk};
+ghost use Rattle.dw_journal.specs.declared.BlockState.TheVariants as blocks;
 ghost use Rattle.dw_journal.specs.Worlds.{IsSession};
+ghost use Rattle.dw_journal.specs.Blocks.{block_of};
 ghost use Rattle.dw_journal.specs.Contents.{view};
-ghost use Rattle.dw_journal.specs.Legal.{IsNextEvent};
+ghost use Rattle.dw_journal.specs.Turns.{number_due};
+ghost use Rattle.dw_journal.specs.Legal.{IsNextEvent, blockers_of};
 ghost use Rattle.dw_core.specs.DueEvents.{opening_due};
 ghost use Rattle.dw_engine.specs.NextStatements.{IsTakingWork, bound_refusal_of};
 ghost use Rattle.dw_engine.specs.Steps.{IsStep};
@@ -10,6 +13,7 @@ ghost use Rattle.dw_engine.specs.Steps.{IsStep};
 use crate::engines::Engine;
 use dw_commit::View;
 use dw_journal::{BlockState, Given, place_of};
+use dw_locks::Asked;
 use dw_model::{Database, Refusal};
 use dw_plain::bound_refusal;
 use dw_value::List;
@@ -27,12 +31,28 @@ impl Engine {
         match self.core.block(session) {
             BlockState::Aborted => self.decline(session, Refusal::Aborted),
             BlockState::Outside | BlockState::Within => {
-                self.core.ask(session);
+                self.ask(session)?;
                 match self.refusal_of(session)? {
                     Some(refusal) => self.decline(session, refusal),
                     None => self.opened(session),
                 }
             }
+        }
+    }
+
+    /// Asks for the locks of the next statement, which are granted: no statement that is run on what its session sees
+    /// wants a lock yet.
+    fn ask(&mut self, session: u32) -> Result<(), AllocError>
+        requires session { IsSession self.old.world session }
+        requires work { IsTakingWork self.old session }
+        requires stands { block_of self.old session ≢ blocks.Aborted }
+        ensures granted { OnOk result (blockers_of self.old session (number_due self.old session) ≡ []) }
+        ensures same { self.new ≡ self.old }
+    {
+        let wants = self.core.wants(session)?;
+        match self.core.ask(session, &wants)? {
+            Asked::Granted => Ok(()),
+            Asked::Waits { .. } | Asked::Deadlock { .. } => unreachable!(),
         }
     }
 

@@ -1,4 +1,4 @@
-use Rattle.std.proofs.Common.{◌≡◌, List, ℕ, refl, sym, ap, subst, ◌∙◌}
+use Rattle.std.proofs.Common.{◌≡◌, ◌<◌, List, length, ℕ, sym, ap, subst, ◌∙◌, arith}
 use Rattle.std.specs.Prelude.{Some}
 use Rattle.dw_journal.specs.History.{History, with_event}
 use Rattle.dw_journal.specs.Legal.{IsNextEvent, blockers_of, cycle_of}
@@ -34,6 +34,7 @@ returns-clause-ok c =
       | in-Deadlock+in_ok-cycle-in-Deadlock+in_ok-declined-in-Deadlock w ↦
           let says = deadlock_says w.in-Deadlock.cycle _ _ (sym w.in-Deadlock.is ∙ c.in_ok-asked.ensures) in
           subst (λ (asked : Asked). IsAnswered now session asked c.match-asked.self) (sym w.in-Deadlock.is) (
+            subst (λ (holders : List ℕ). 0 < length holders) (sym says.1.2) (omega arith),
             says.0,
             deadlock_comes now session c.requires.session c.requires.work w.in-Deadlock.cycle says.1 says.0,
             w.self-is ∙ w.in_ok-declined-in-Deadlock.ensures.ok ∙ ap (λ (cycle : List ℕ). with_event now (deadlock_due now session cycle)) w.in_ok-cycle-in-Deadlock.ensures,
