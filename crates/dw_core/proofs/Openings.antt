@@ -24,8 +24,14 @@ work_called : (given : Given) (statement : Statement) → call_of given ≡ Work
 work_called (Read (forms.Create spec)) statement is =
     let same : forms.Create spec ≡ statement = cc in
     subst (λ (s : Statement). call_of_statement s ≡ Works s) same refl
-work_called (Read (forms.Insert table rows)) statement is =
-    let same : forms.Insert table rows ≡ statement = cc in
+work_called (Read (forms.Drop table)) statement is =
+    let same : forms.Drop table ≡ statement = cc in
+    subst (λ (s : Statement). call_of_statement s ≡ Works s) same refl
+work_called (Read (forms.Lock tables)) statement is =
+    let same : forms.Lock tables ≡ statement = cc in
+    subst (λ (s : Statement). call_of_statement s ≡ Works s) same refl
+work_called (Read (forms.Insert table columns rows)) statement is =
+    let same : forms.Insert table columns rows ≡ statement = cc in
     subst (λ (s : Statement). call_of_statement s ≡ Works s) same refl
 work_called (Read (forms.Select query)) statement is =
     let same : forms.Select query ≡ statement = cc in

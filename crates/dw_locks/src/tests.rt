@@ -6,7 +6,7 @@ use crate::cycles::first_cycle;
 use crate::locks::{Asked, Locks};
 use crate::wanted::wants;
 use dw_journal::{Given, Mode, Want};
-use dw_model::Statement;
+use dw_model::{Query, Refusal, Statement, TableSpec};
 use dw_value::{List, Text};
 use std::alloc::{AllocError, Global};
 use std::test::Fail;
@@ -215,20 +215,58 @@ fn calls_are_answered(rt: HostRuntime) -> Result<(), Fail> {
     Ok(())
 }
 
-/// A VACUUM wants its table in `AccessShare`; what the grammar refused wants nothing.
+/// What each form of statement wants, each lock as its mode and its table; what the grammar refused wants nothing.
 #[test]
 fn statements_want_their_locks(rt: HostRuntime) -> Result<(), Fail> {
     let alloc = rt.alloc();
-    let table = Text::from_str(alloc, "a")?;
-    let sweep = Given::Read(Statement::Vacuum { table });
-    let wanted = wants(alloc, Some(&sweep))?;
-    assert_eq!(rt; wanted.len(), 1);
-    assert!(rt;
-        wanted.as_slice().iter().all(|want| matches!(want.mode, Mode::AccessShare)
-            && want.table.as_str() == "a")
-    );
-    let begin = Given::Read(Statement::Begin);
-    assert_eq!(rt; wants(alloc, Some(&begin))?.len(), 0);
+    let a = Text::from_str(alloc, "a")?;
+    let mut tables = List::new(alloc);
+    tables.push(Text::from_str(alloc, "b")?)?;
+    tables.push(a.copy()?)?;
+    let insert = Statement::Insert {
+        table: a.copy()?,
+        columns: List::new(alloc),
+        rows: List::new(alloc),
+    };
+    let select = Statement::Select {
+        query: Query {
+            items: List::new(alloc),
+            table: a.copy()?,
+            keep: None,
+        },
+    };
+    let create = Statement::Create {
+        spec: TableSpec::new(a.copy()?, List::new(alloc)),
+    };
+    for (statement, wanted) in [
+        (Statement::Vacuum { table: a.copy()? }, "share a"),
+        (create, "whole a"),
+        (Statement::Drop { table: a.copy()? }, "whole a"),
+        (Statement::Lock { tables }, "whole b whole a"),
+        (insert, "write a"),
+        (select, "share a"),
+        (Statement::Begin, ""),
+        (Statement::Commit, ""),
+        (Statement::Rollback, ""),
+    ] {
+        let given = Given::Read(statement);
+        let wants = wants(alloc, Some(&given))?;
+        let mut told = String::new(alloc);
+        for want in wants.as_slice() {
+            if !told.is_empty() {
+                told.push(' ')?;
+            }
+            told.push_str(match want.mode {
+                Mode::AccessShare => "share ",
+                Mode::ShareRowExclusive => "write ",
+                Mode::AccessExclusive => "whole ",
+            })?;
+            told.push_str(want.table.as_str())?;
+        }
+        assert_eq!(rt; told.as_str(), wanted);
+    }
+    let refused = Given::Refused(Refusal::Clash);
+    assert_eq!(rt; wants(alloc, Some(&refused))?.len(), 0);
     assert_eq!(rt; wants(alloc, None)?.len(), 0);
     Ok(())
 }
