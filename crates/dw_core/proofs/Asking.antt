@@ -16,12 +16,11 @@ use Rattle.dw_journal.specs.History.{History, newest_event}
 use Rattle.dw_journal.specs.Blocks.{block_of}
 use Rattle.dw_journal.specs.Contents.{view}
 use Rattle.dw_journal.specs.Locks.{lock_state, wants_of}
-use Rattle.dw_journal.specs.Turns.{Turn, Taking, Works, turn_of, number_due}
+use Rattle.dw_journal.specs.Turns.{Turn, Works, number_due}
 use Rattle.dw_journal.specs.Follows.{IsOpening, is_wait, is_opening_refused, work_outside, work_within, FollowsAfter}
 use Rattle.dw_journal.specs.Legal.{IsLockWait, IsNextEvent, IsRefusal, IsWaitOf, blockers_of, cycle_of, opening_refusal, unless_blocked}
 use Rattle.dw_locks.specs.LockTable.{LockTable, StandsForLocks, entry_of, table_blockers, table_cycle, waiting}
 use Rattle.dw_locks.specs.Requests.{answer_by, answer_to, table_after}
-use Rattle.dw_locks.specs.declared.locks.Asked.{Asked}
 use Rattle.dw_locks.specs.declared.locks.Asked.TheVariants.{Granted, Waits, Deadlock}
 use Rattle.dw_locks.proofs.Standing.{blockers_are, cycle_stands}
 use Rattle.dw_core.specs.Asking.{IsToAsk, deadlock_due, wait_due}

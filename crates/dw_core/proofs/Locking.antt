@@ -1,10 +1,10 @@
 -- The table of locks stands for the history once more, after one more event.
-use Rattle.std.proofs.Common.{◌≡◌, ℕ, ◌<◌, Bool, true, false, List, [], length, set, refl, sym, ap, subst, ◌∙◌, arith}
+use Rattle.std.proofs.Common.{◌≡◌, ℕ, ◌<◌, true, List, [], length, set, refl, sym, ap, subst, ◌∙◌, arith}
 use Rattle.std.specs.Prelude.{Option, Some, None, ◌++◌, flat_map}
 use Rattle.dw_journal.specs.declared.Event.{Event}
-use Rattle.dw_journal.specs.declared.Event.TheVariants.{Begin, Pass, Wait, Opened, Answer, Commit, Violation, Refuse, Rollback, VacuumBegin, End}
+use Rattle.dw_journal.specs.declared.Event.TheVariants.{Begin, Pass, Wait, Answer, Commit, Violation, Refuse, Rollback, End}
 use Rattle.dw_journal.specs.Worlds.{IsSession}
-use Rattle.dw_journal.specs.History.{History, newest_event, session_of, with_event}
+use Rattle.dw_journal.specs.History.{History, session_of, with_event}
 use Rattle.dw_journal.specs.Transactions.{opened_after, opened_statements}
 use Rattle.dw_journal.specs.Vacuums.{swept_after, swept_by}
 use Rattle.dw_journal.specs.Locks.{held_locks, lock_state, sweep_locks}

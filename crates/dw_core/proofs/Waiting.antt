@@ -4,20 +4,18 @@ use Rattle.std.specs.Prelude.{Option, Some, None, if◌then◌else◌}
 use Rattle.std.proofs.lemmas.Bool.{eqb-true}
 use Rattle.dw_journal.specs.declared.Event.{Event}
 use Rattle.dw_journal.specs.declared.Event.TheVariants.{Begin, Pass, Wait, Answer, Refuse, Rollback, End}
-use Rattle.dw_journal.specs.declared.Given.{Given}
 use Rattle.dw_journal.specs.declared.Shape.{Shape}
 use Rattle.dw_journal.specs.declared.World.{World}
 use Rattle.dw_journal.specs.Worlds.{given_at}
 use Rattle.dw_journal.specs.History.{History, is_of, newest_event, session_of, statements_after, statements_taken}
 use Rattle.dw_journal.specs.Blocks.{block_after, block_by}
-use Rattle.dw_journal.specs.Transactions.{transaction_of}
 use Rattle.dw_journal.specs.Locks.{LockState}
 use Rattle.dw_journal.specs.Turns.{Call, Turn, AnswerOf, Taking, taking, turn_after, turn_of}
 use Rattle.dw_journal.specs.Follows.{EachFollows, FollowsAfter}
 use Rattle.dw_journal.proofs.OneEvent.{turn_given}
 use Rattle.dw_locks.specs.LockTable.{wants_waited}
 use Rattle.dw_core.specs.Changes.{IsPlain, ends_transaction}
-use Rattle.dw_core.proofs.DueEvents.{MayWait, TakesAtOnce, Tells, told}
+use Rattle.dw_core.proofs.DueEvents.{MayWait, TakesAtOnce, told}
 
 -- a statement is to be taken that may wait
 abbrev pub TakesLater : Turn → Type 0

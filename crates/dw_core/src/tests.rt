@@ -8,8 +8,9 @@ ghost use Rattle.dw_core.specs.declared.cores.Next.TheVariants as turn;
 
 use crate::{Core, Next};
 use dw_journal::{BlockState, Event, Given, Shape, World};
+use dw_locks::Asked;
 use dw_model::{FileMap, Refusal, Statement, Word};
-use dw_value::List;
+use dw_value::{List, Text};
 use std::alloc::{AllocError, Global};
 use std::test::Fail;
 
@@ -155,5 +156,44 @@ fn blocks_of_a_session(rt: HostRuntime) -> Result<(), Fail> {
     for (event, letter_wanted) in journal.events.as_slice().iter().zip(wanted.chars()) {
         assert_eq!(rt; letter(event), letter_wanted);
     }
+    Ok(())
+}
+
+/// Whether the locks of the session's next statement are granted, where that is an INSERT outside a block.
+fn is_granted(core: &mut Core, session: u32) -> Result<bool, AllocError>
+    requires session { IsSession core.old.world session }
+    requires take { MeansTurn core.old session turn.Take }
+{
+    match core.block(session) {
+        BlockState::Outside => match core.given(session) {
+            Some(Given::Read(Statement::Insert { .. })) => {
+                let wants = core.wants(session)?;
+                Ok(matches!(core.ask(session, &wants)?, Asked::Granted))
+            }
+            _ => Ok(false),
+        },
+        BlockState::Within | BlockState::Aborted => Ok(false),
+    }
+}
+
+/// An INSERT wants no lock yet, so it is granted what it wants, nothing happens, and nobody holds its table.
+#[test]
+fn locks_are_asked_for(rt: HostRuntime) -> Result<(), Fail> {
+    let alloc = rt.alloc();
+    let mut first = List::new(alloc);
+    first.push(Given::Read(Statement::Insert {
+        table: Text::from_str(alloc, "a")?,
+        rows: List::new(alloc),
+    }))?;
+    let second = script(alloc, "")?;
+    assert!(rt; first.len() < 100 && second.len() < 100);
+    let mut core = Core::new(alloc, Shape::standard(2), world(alloc, first, second)?)?;
+    let table = Text::from_str(alloc, "a")?;
+    match core.next(1) {
+        Next::Take => assert!(rt; is_granted(&mut core, 1)?),
+        _ => assert!(rt; false),
+    }
+    assert!(rt; core.holder(&table).is_none());
+    assert_eq!(rt; core.into_journal().events.len(), 0);
     Ok(())
 }

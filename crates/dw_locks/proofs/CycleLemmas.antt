@@ -9,7 +9,7 @@ use Rattle.dw_locks.specs.Cycles.{IsFirst, each_waits, IsCycle}
 use Rattle.dw_locks.proofs.WalkLemmas.{IsWalk, here, step, Each, each_walk}
 
 -- an element stands in a list
-data Among {A : Type 0} (one : A) : List A → Type 0 where
+pub data Among {A : Type 0} (one : A) : List A → Type 0 where
   front : {rest : List A} → Among one (one ∷ rest)
   further : {other : A} {rest : List A} → Among one rest → Among one (other ∷ rest)
 
@@ -32,7 +32,7 @@ among_flat f [] stands there = elim stands [ ]
 among_flat f (one ∷ ones) front there = among_left (f one) (flat_map f ones) there
 among_flat f (other ∷ ones) (further rest) there = among_right (f other) (flat_map f ones) (among_flat f ones rest there)
 
-each_among : {A : Type 0} {one : A} (P : A → Type 0) (ones : List A) → Each P ones → Among one ones → P one
+pub each_among : {A : Type 0} {one : A} (P : A → Type 0) (ones : List A) → Each P ones → Among one ones → P one
 each_among P [] each there = elim there [ ]
 each_among P (one ∷ ones) each front = each.0
 each_among P (other ∷ ones) each (further rest) = each_among P ones each.1 rest
@@ -45,10 +45,10 @@ and_right : (a b : Bool) → (a && b) ≡ true → b ≡ true
 and_right true b is = is
 and_right false b is = cc
 
-and_both : (a b : Bool) → a ≡ true → b ≡ true → (a && b) ≡ true
+pub and_both : (a b : Bool) → a ≡ true → b ≡ true → (a && b) ≡ true
 and_both a b one two = rw (one, two) refl
 
-inside : {A : Type 0} (a b : A) → Some a ≡ Some b → a ≡ b
+pub inside : {A : Type 0} (a b : A) → Some a ≡ Some b → a ≡ b
 inside a b same = cc
 
 -- what is found passes the test and is one of them; where nothing is found, none of them passes
@@ -89,7 +89,7 @@ contained one (other ∷ ones) there = contained_by one other ones (other == one
 
 module _ (next : ℕ → List ℕ) (session : ℕ) where
   -- a list in which each waits for the next is one of the walks
-  walk_among : (from : ℕ) (rest : List ℕ) → each_waits next (from ∷ rest) ≡ true → Among (from ∷ rest) (walks next (length rest) from)
+  pub walk_among : (from : ℕ) (rest : List ℕ) → each_waits next (from ∷ rest) ≡ true → Among (from ∷ rest) (walks next (length rest) from)
   walk_among from [] waits = front
   walk_among from (second ∷ rest) waits =
       among_map (λ walk. from ∷ walk) (flat_map (walks next (length rest)) (next from))
@@ -109,7 +109,7 @@ module _ (next : ℕ → List ℕ) (session : ℕ) where
       let is = walk_is rest in (refl, waits_on from one walk is.0 there is.1, ap suc is.2)
 
   -- so what is found is a cycle, and where nothing is found there is none of so many sessions
-  found_cycle : (steps : ℕ) (cycle : List ℕ) → find (closes next session) (walks next steps session) ≡ Some cycle
+  pub found_cycle : (steps : ℕ) (cycle : List ℕ) → find (closes next session) (walks next steps session) ≡ Some cycle
       → IsCycle next session cycle × (length cycle ≡ suc steps)
   found_cycle steps cycle found =
       let there = found_among (closes next session) cycle (walks next steps session) found in

@@ -6,3 +6,4 @@ pub mod Standing
 pub mod HeldOnce
 pub mod CycleLemmas
 pub mod Lasting
+pub mod LeastCycles

@@ -80,15 +80,15 @@ abbrev pub Each : {A : Type 0} → (A → Type 0) → List A → Type 0
 Each P [] = Unit {0}
 Each P (one ∷ ones) = P one × Each P ones
 
-each_append : {A : Type 0} (P : A → Type 0) (ones more : List A) → Each P ones → Each P more → Each P (ones ++ more)
+pub each_append : {A : Type 0} (P : A → Type 0) (ones more : List A) → Each P ones → Each P more → Each P (ones ++ more)
 each_append P [] more each rest = rest
 each_append P (one ∷ ones) more each rest = (each.0, each_append P ones more each.1 rest)
 
-each_map : {A B : Type 0} (P : A → Type 0) (Q : B → Type 0) (f : A → B) → ((one : A) → P one → Q (f one)) → (ones : List A) → Each P ones → Each Q (map f ones)
+pub each_map : {A B : Type 0} (P : A → Type 0) (Q : B → Type 0) (f : A → B) → ((one : A) → P one → Q (f one)) → (ones : List A) → Each P ones → Each Q (map f ones)
 each_map P Q f so [] each = tt
 each_map P Q f so (one ∷ ones) each = (so one each.0, each_map P Q f so ones each.1)
 
-each_weaken : {A : Type 0} (P Q : A → Type 0) → ((one : A) → P one → Q one) → (ones : List A) → Each P ones → Each Q ones
+pub each_weaken : {A : Type 0} (P Q : A → Type 0) → ((one : A) → P one → Q one) → (ones : List A) → Each P ones → Each Q ones
 each_weaken P Q so [] each = tt
 each_weaken P Q so (one ∷ ones) each = (so one each.0, each_weaken P Q so ones each.1)
 

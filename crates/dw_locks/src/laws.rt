@@ -1,6 +1,9 @@
 //! Laws of tables of locks: calls that do nothing, whose contracts speak of every table.
-ghost use Rattle.std.specs.Prelude.{◌≡◌, ◌++◌, ◌+◌, ◌<◌, ◌≤◌, ℕ, List as Items, [], length, replicate, None, Some};
+ghost use Rattle.std.specs.Prelude.{◌≡◌, ◌≢◌, ◌++◌, ◌+◌, ◌<◌, ◌≤◌, ℕ, List as Items, [], length, replicate, None, Some};
 ghost use Rattle.std.specs.List.{slice_set};
+ghost use Rattle.std.specs.Ordering.{nat_cmp};
+ghost use Rattle.std.specs.Cmp.Lexicographic.{slice_cmp};
+ghost use Rattle.std.specs.declared.cmp.Ordering.TheVariants.{Less};
 ghost use Rattle.dw_journal.specs.declared.locks.Want.{Want as Lock};
 ghost use Rattle.dw_journal.specs.declared.Event.{Event as Happening};
 ghost use Rattle.dw_journal.specs.declared.Event.TheVariants as event;
@@ -30,14 +33,17 @@ pub fn grant_adds_what_is_asked()
 {}
 
 /// The cycle with which a deadlock is refused is one: different sessions, of which the refused one is the first; each would
-/// wait for the next, and the last for the first. There is no shorter one; and where none is given, there is none among so
-/// many sessions as there are.
+/// wait for the next, and the last for the first. There is no shorter one, and none of its length is less by the first
+/// number in which they differ; and where none is given, there is none among so many sessions as there are.
 pub fn deadlocks_are_shortest_cycles()
     ensures cycle { (state : LockState) (session : ℕ) (asked : Items Lock) (cycle : Items ℕ) →
         deadlock_cycle state session asked ≡ Some cycle → IsCycle (would_wait_for state session asked) session cycle }
     ensures shortest { (state : LockState) (session : ℕ) (asked : Items Lock) (cycle other : Items ℕ) →
         deadlock_cycle state session asked ≡ Some cycle → IsCycle (would_wait_for state session asked) session other →
         length cycle ≤ length other }
+    ensures least { (state : LockState) (session : ℕ) (asked : Items Lock) (cycle other : Items ℕ) →
+        deadlock_cycle state session asked ≡ Some cycle → IsCycle (would_wait_for state session asked) session other →
+        length other ≡ length cycle → slice_cmp nat_cmp other cycle ≢ Less }
     ensures none { (state : LockState) (session : ℕ) (asked : Items Lock) (other : Items ℕ) →
         deadlock_cycle state session asked ≡ None → IsCycle (would_wait_for state session asked) session other →
         length other ≤ state.sessions + 1 → ⊥ }

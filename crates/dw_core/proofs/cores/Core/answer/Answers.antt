@@ -1,4 +1,4 @@
-use Rattle.std.proofs.Common.{◌≡◌, reverse, sym, subst, ◌∙◌}
+use Rattle.std.proofs.Common.{◌≡◌, reverse, sym, subst}
 use Rattle.std.specs.Prelude.{IfOk}
 use Rattle.dw_journal.specs.History.{History}
 use Rattle.dw_journal.specs.Legal.{blockers_of, cycle_of}

@@ -1,8 +1,6 @@
-use Rattle.std.proofs.Common.{◌≡◌, ◌<◌, List, length, ℕ, sym, ap, subst, ◌∙◌, arith}
-use Rattle.std.specs.Prelude.{Some}
+use Rattle.std.proofs.Common.{◌<◌, List, length, ℕ, sym, ap, subst, ◌∙◌, arith}
 use Rattle.dw_journal.specs.History.{History, with_event}
-use Rattle.dw_journal.specs.Legal.{IsNextEvent, blockers_of, cycle_of}
-use Rattle.dw_journal.specs.Turns.{number_due}
+use Rattle.dw_journal.specs.Legal.{IsNextEvent}
 use Rattle.dw_locks.specs.declared.locks.Asked.{Asked}
 use Rattle.dw_core.specs.Asking.{HasWaited, IsAnswered, deadlock_due}
 use Rattle.dw_core.specs.Traces.{LeavesNoTrace}

@@ -1,10 +1,9 @@
-use Rattle.std.proofs.Common.{inr, ◌≡◌, ◌≢◌, ◌+◌, ◌-◌, ◌<◌, ℕ, true, false, List, [], ◌∷◌, ◌++◌, length, reverse, refl, sym, ap, subst, ◌∙◌, arith}
+use Rattle.std.proofs.Common.{inr, ◌≡◌, ◌≢◌, ◌+◌, ◌-◌, ℕ, List, [], ◌∷◌, ◌++◌, reverse, refl, sym, ap, subst, ◌∙◌, arith}
 use Rattle.std.specs.Prelude.{Some}
 use Rattle.std.proofs.lemmas.Bool.{false≢true}
 use Rattle.std.specs.List.{slice_set}
 use Rattle.dw_journal.specs.declared.Event.{Event}
 use Rattle.dw_journal.specs.declared.Event.TheVariants.{Wait}
-use Rattle.dw_journal.specs.declared.locks.Want.{Want}
 use Rattle.dw_journal.specs.Worlds.{IsSession}
 use Rattle.dw_journal.specs.History.{History, newest_event, with_event}
 use Rattle.dw_journal.specs.Legal.{IsLockWait, IsNextEvent}
