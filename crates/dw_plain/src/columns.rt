@@ -1,14 +1,14 @@
-//! The columns of a table, by their names and kinds.
+//! The columns of a table, by their names.
 ghost use Rattle.std.specs.Prelude.{◌≡◌};
 ghost use Rattle.std.specs.Option.{option_copied};
-ghost use Rattle.dw_model.specs.Binding.{column_of, row_goes_with};
+ghost use Rattle.dw_model.specs.Binding.{column_of, first_unknown};
 ghost use Rattle.dw_plain.specs.Places.{place_of};
 
 use dw_model::Column;
-use dw_value::{Row, Text, goes_with};
+use dw_value::Text;
 
 /// The column of this name, if there is one. It takes no memory.
-pub fn column_at<'a>(columns: &'a [Column], name: &Text) -> Option<&'a Column>
+pub(crate) fn column_at<'a>(columns: &'a [Column], name: &Text) -> Option<&'a Column>
     ensures { option_copied result ≡ column_of columns.now name.now }
 {
     for column in columns {
@@ -20,7 +20,7 @@ pub fn column_at<'a>(columns: &'a [Column], name: &Text) -> Option<&'a Column>
 }
 
 /// The place of the column of this name, from 0, if there is one. It takes no memory.
-pub fn column_place(columns: &[Column], name: &Text) -> Option<usize>
+pub(crate) fn column_place(columns: &[Column], name: &Text) -> Option<usize>
     ensures { result ≡ place_of columns.now name.now }
 {
     for (place, column) in columns.iter().enumerate() {
@@ -31,19 +31,14 @@ pub fn column_place(columns: &[Column], name: &Text) -> Option<usize>
     None
 }
 
-/// Whether a row has a value for each of these columns, each of the class that the column takes. It takes no memory.
-#[tactic(auto, using(crate::proofs::BindLemmas::other_widths))]
-pub fn row_goes_with(columns: &[Column], row: &Row) -> bool
-    ensures { result ≡ row_goes_with columns.now row.now.values }
+/// The first of these names that is no column. It takes no memory.
+pub(crate) fn unknown_column<'a>(columns: &[Column], names: &'a [Text]) -> Option<&'a Text>
+    ensures { option_copied result ≡ first_unknown columns.now names.now }
 {
-    let values = row.values.as_slice();
-    if columns.len() != values.len() {
-        return false;
-    }
-    for (place, column) in columns.iter().enumerate() {
-        if !goes_with(column.kind, &values[place]) {
-            return false;
+    for name in names {
+        if column_at(columns, name).is_none() {
+            return Some(name);
         }
     }
-    true
+    None
 }

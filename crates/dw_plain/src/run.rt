@@ -1,17 +1,19 @@
 //! A statement run alone.
 ghost use Rattle.std.specs.Prelude.{◌≡◌, IfOk};
 ghost use Rattle.dw_model.specs.Alone.{alone, outcome_of, outcome_on};
-ghost use Rattle.dw_model.specs.Binding.{bound_insert, bound_query};
+ghost use Rattle.dw_model.specs.Bound.{bound_drop, bound_insert, bound_query};
 ghost use Rattle.dw_model.specs.Databases.{def_of, rows_of};
 ghost use Rattle.dw_model.specs.Files.{Files};
 ghost use Rattle.dw_model.specs.Refusals.{after_result};
 
-use crate::bind::{columns_refusal, create_refusal, rows_refusal};
-use crate::create::create;
-use crate::insert::insert;
+use crate::bind::{columns_refusal, drop_refusal};
+use crate::create::{create, create_refusal};
+use crate::insert::{insert, insert_refusal};
 use crate::select::select;
-use dw_model::{Database, FileMap, Outcome, Plain, Query, Refusal, Statement, TableSpec};
-use dw_value::{List, Row, Text};
+use dw_model::{
+    Answer, Change, Database, FileMap, Literal, Outcome, Plain, Query, Refusal, Statement, Word,
+};
+use dw_value::{List, Text};
 use std::alloc::{AllocError, Global};
 
 /// What a statement comes to on a database beside the files that were handed in: its answer with its change, or the
@@ -34,8 +36,32 @@ pub fn plain_outcome(
             Some(refusal) => Ok(Err(refusal)),
             None => Ok(Ok(create(alloc, spec)?)),
         },
-        Statement::Insert { table, rows } => insert_outcome(alloc, table, rows, database),
+        Statement::Drop { table } => drop_outcome(table, database),
+        Statement::Insert {
+            table,
+            columns,
+            rows,
+        } => insert_outcome(alloc, table, columns, rows, database),
         Statement::Select { query } => select_outcome(alloc, query, database),
+    }
+}
+
+// What DROP TABLE comes to, whichever files there are.
+fn drop_outcome(name: &Text, database: &Database) -> Result<Result<Outcome, Refusal>, AllocError>
+    ensures { (files : Files) → IfOk result (λ outcome. outcome ≡
+        after_result (outcome_of files (rows_of database.now))
+        (bound_drop name.now (def_of database.now name.now))) }
+{
+    match drop_refusal(name, database)? {
+        Some(refusal) => Ok(Err(refusal)),
+        None => Ok(Ok(Outcome {
+            answer: Answer::Plain {
+                word: Word::DropTable,
+            },
+            change: Change::Drops {
+                table: name.copy()?,
+            },
+        })),
     }
 }
 
@@ -43,20 +69,21 @@ pub fn plain_outcome(
 fn insert_outcome(
     alloc: Global,
     name: &Text,
-    rows: &List<Row>,
+    listed: &List<Text>,
+    tuples: &List<List<Literal>>,
     database: &Database,
 ) -> Result<Result<Outcome, Refusal>, AllocError>
     ensures { (files : Files) → IfOk result (λ outcome. outcome ≡
         after_result (outcome_of files (rows_of database.now))
-        (bound_insert name.now rows.now (def_of database.now name.now))) }
+        (bound_insert name.now listed.now tuples.now (def_of database.now name.now))) }
 {
     let Some(table) = database.get(name) else {
         return Ok(Err(Refusal::Unknown { name: name.copy()? }));
     };
     let columns = table.def.columns.as_slice();
-    match rows_refusal(columns, rows.as_slice()) {
+    match insert_refusal(columns, listed, tuples.as_slice())? {
         Some(refusal) => Ok(Err(refusal)),
-        None => insert(alloc, name, columns, rows.as_slice()),
+        None => insert(alloc, name, columns, listed.as_slice(), tuples.as_slice()),
     }
 }
 

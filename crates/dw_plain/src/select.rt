@@ -1,14 +1,30 @@
 //! SELECT of some columns of one table's rows.
-ghost use Rattle.std.specs.Prelude.{◌≡◌, IfOk, map as mapped};
+ghost use Rattle.std.specs.Prelude.{◌≡◌, filter, map as mapped, option_map, IfOk};
 ghost use Rattle.std.specs.Option.{option_copied};
 ghost use Rattle.dw_model.specs.Alone.{select_outcome};
-ghost use Rattle.dw_model.specs.Selection.{fields_of, selected};
-ghost use Rattle.dw_plain.specs.Places.{found_at, passes_at, place_of, tested_place, values_at};
+ghost use Rattle.dw_model.specs.Selection.{fields_of, kind_of, kinds_of, selected};
+ghost use Rattle.dw_plain.specs.Places.{condition_of, found_at, holds_at, passes_at, place_of, values_at};
 
-use crate::columns::column_place;
+use crate::columns::{column_at, column_place};
+use crate::literals::{compared_with, scale_of_literal};
 use dw_model::{Answer, Change, Column, Outcome, Query, Test, Word};
-use dw_value::{Field, Kind, List, Row, Text, Truth, Value, show, sort_rows};
+use dw_value::{Comparison, Field, Kind, List, Row, Text, Truth, Value, show, sort_rows};
 use std::alloc::{AllocError, Global};
+
+/// A test whose column's place is known, and whose literal is turned into a value.
+#[derive(Debug, Drop)]
+pub(crate) struct Condition {
+    /// The place of the column.
+    place: Option<usize>,
+    /// The scale of the column.
+    scale: u8,
+    /// How the column's value is compared.
+    comparison: Comparison,
+    /// What it is compared with.
+    value: Value,
+    /// The scale of that.
+    value_scale: u8,
+}
 
 /// What SELECT from a table of these columns and rows comes to, once its names and kinds are known to fit: the items
 /// of the rows that pass, in ascending order. It changes nothing.
@@ -21,7 +37,8 @@ pub(crate) fn select(
     ensures { IfOk result (λ outcome. outcome ≡ select_outcome columns.now query.now rows.now) }
 {
     let rows = selected_rows(alloc, query, columns, rows)?;
-    let rows = shown_rows(alloc, rows.as_slice())?;
+    let kinds = kinds_of(alloc, columns, query.items.as_slice())?;
+    let rows = shown_rows(alloc, kinds.as_slice(), rows.as_slice())?;
     let names = query.items.copy()?;
     Ok(Outcome {
         answer: Answer::Rows {
@@ -33,7 +50,7 @@ pub(crate) fn select(
     })
 }
 
-// The rows of the answer. Each name is looked up once.
+// The rows of the answer. Each name is looked up once, and the test's literal is turned into a value once.
 fn selected_rows(
     alloc: Global,
     query: &Query,
@@ -43,14 +60,27 @@ fn selected_rows(
     ensures { IfOk result (λ answer. answer ≡ selected query.now columns.now rows.now) }
 {
     let places = places_of(alloc, columns, query.items.as_slice())?;
-    let tested = place_tested(columns, &query.keep);
-    let mut answer = List::new(alloc);
+    let condition = condition_of(columns, &query.keep)?;
+    sort_rows(kept_rows(alloc, places.as_slice(), &condition, rows)?)
+}
+
+// The values at these places of the rows that pass.
+fn kept_rows(
+    alloc: Global,
+    places: &[Option<usize>],
+    condition: &Option<Condition>,
+    rows: &[Row],
+) -> Result<List<Row>, AllocError>
+    ensures { IfOk result (λ kept. kept ≡
+        mapped (values_at places.now) (filter (passes_at condition.now) rows.now)) }
+{
+    let mut kept = List::new(alloc);
     for row in rows {
-        if row_passes(&query.keep, tested, row) {
-            answer.push(row_at(alloc, row, places.as_slice())?)?;
+        if row_passes(condition, row) {
+            kept.push(row_at(alloc, row, places)?)?;
         }
     }
-    sort_rows(answer)
+    Ok(kept)
 }
 
 fn places_of(
@@ -67,32 +97,68 @@ fn places_of(
     Ok(places)
 }
 
-fn place_tested(columns: &[Column], keep: &Option<Test>) -> Option<usize>
-    ensures { result ≡ tested_place columns.now keep.now }
+fn condition_of(columns: &[Column], keep: &Option<Test>) -> Result<Option<Condition>, AllocError>
+    ensures { IfOk result (λ condition. condition ≡ option_map (condition_of columns.now) keep.now) }
 {
     match keep {
-        Some(test) => column_place(columns, &test.column),
-        None => None,
+        None => Ok(None),
+        Some(test) => Ok(Some(condition_of_test(columns, test)?)),
     }
 }
 
-// Whether a row passes the condition, whose column stands at this place.
-fn row_passes(keep: &Option<Test>, place: Option<usize>, row: &Row) -> bool
-    ensures { result ≡ passes_at place keep.now row.now }
+fn condition_of_test(columns: &[Column], test: &Test) -> Result<Condition, AllocError>
+    ensures { IfOk result (λ condition. condition ≡ condition_of columns.now test.now) }
 {
-    match keep {
+    let kind = kind_of(columns, &test.column);
+    let value = compared_with(kind, &test.literal)?;
+    Ok(Condition {
+        place: column_place(columns, &test.column),
+        scale: kind.scale(),
+        comparison: test.comparison,
+        value: value.unwrap_or(Value::Null),
+        value_scale: scale_of_literal(&test.literal),
+    })
+}
+
+// The kind of the column of a name; a name that is no column counts as an INTEGER.
+fn kind_of(columns: &[Column], name: &Text) -> Kind
+    ensures { result ≡ kind_of columns.now name.now }
+{
+    match column_at(columns, name) {
+        Some(column) => column.kind,
+        None => Kind::Int,
+    }
+}
+
+fn kinds_of(alloc: Global, columns: &[Column], names: &[Text]) -> Result<Vec<Kind>, AllocError>
+    ensures { IfOk result (λ kinds. kinds.items ≡ kinds_of columns.now names.now) }
+{
+    let mut kinds = Vec::with_capacity(alloc, names.len())?;
+    for name in names {
+        kinds.push(kind_of(columns, name))?;
+    }
+    Ok(kinds)
+}
+
+fn row_passes(condition: &Option<Condition>, row: &Row) -> bool
+    ensures { result ≡ passes_at condition.now row.now }
+{
+    match condition {
         None => true,
-        Some(test) => test_passes(test, place, row),
+        Some(condition) => holds_at(condition, row),
     }
 }
 
-fn test_passes(test: &Test, place: Option<usize>, row: &Row) -> bool
-    ensures { result ≡ passes_at place (Some test.now) row.now }
+fn holds_at(condition: &Condition, row: &Row) -> bool
+    ensures { result ≡ holds_at condition.now row.now }
 {
-    let truth = match value_at(row, place) {
-        Some(value) => test.comparison.holds(value, 0, &test.literal, 0),
-        None => test.comparison.holds(&Value::Null, 0, &test.literal, 0),
-    };
+    let value = value_at(row, condition.place).unwrap_or(&Value::Null);
+    let truth = condition.comparison.holds(
+        value,
+        condition.scale,
+        &condition.value,
+        condition.value_scale,
+    );
     matches!(truth, Truth::True)
 }
 
@@ -118,22 +184,27 @@ fn row_at(alloc: Global, row: &Row, places: &[Option<usize>]) -> Result<Row, All
     Ok(Row { values })
 }
 
-fn shown_rows(alloc: Global, rows: &[Row]) -> Result<List<List<Field>>, AllocError>
-    ensures { IfOk result (λ shown. shown ≡ mapped fields_of rows.now) }
+fn shown_rows(alloc: Global, kinds: &[Kind], rows: &[Row]) -> Result<List<List<Field>>, AllocError>
+    ensures { IfOk result (λ shown. shown ≡ mapped (fields_of kinds.now) rows.now) }
 {
     let mut shown = List::with_capacity(alloc, rows.len())?;
     for row in rows {
-        shown.push(shown_row(alloc, row)?)?;
+        shown.push(shown_row(alloc, kinds, row)?)?;
     }
     Ok(shown)
 }
 
-fn shown_row(alloc: Global, row: &Row) -> Result<List<Field>, AllocError>
-    ensures { IfOk result (λ fields. fields ≡ fields_of row.now) }
+// The values of a row as they are printed, each by its kind.
+#[tactic(auto, using(crate::proofs::SelectLemmas::shown_past, crate::proofs::SelectLemmas::shown_unknown))]
+fn shown_row(alloc: Global, kinds: &[Kind], row: &Row) -> Result<List<Field>, AllocError>
+    ensures { IfOk result (λ fields. fields ≡ fields_of kinds.now row.now) }
 {
-    let mut fields = List::with_capacity(alloc, row.values.len())?;
-    for value in row.values.as_slice() {
-        fields.push(show(alloc, value, Kind::Big)?)?;
+    let mut fields = List::with_capacity(alloc, kinds.len())?;
+    for (place, value) in row.values.as_slice().iter().enumerate() {
+        match kinds.get(place) {
+            Some(kind) => fields.push(show(alloc, value, *kind)?)?,
+            None => return Ok(fields),
+        }
     }
     Ok(fields)
 }
