@@ -3,7 +3,7 @@ ghost use Rattle.std.specs.Prelude.{◌≡◌, IfOk};
 ghost use Rattle.std.specs.Option.{option_copied};
 ghost use Rattle.std.specs.Result.{result_err};
 ghost use Rattle.dw_model.specs.Binding.{columns_refusal, first_unknown, names_in, test_goes_with, tested_column};
-ghost use Rattle.dw_model.specs.Bound.{bound_drop, bound_insert, bound_query, bound_refusal};
+ghost use Rattle.dw_model.specs.Bound.{bound_drop, bound_insert, bound_lock, bound_query, bound_refusal, first_missing};
 ghost use Rattle.dw_model.specs.Databases.{def_of};
 
 use crate::columns::{column_at, unknown_column};
@@ -32,6 +32,7 @@ pub fn bound_refusal(
         ),
         Statement::Create { spec } => create_refusal(spec, database),
         Statement::Drop { table } => drop_refusal(table, database),
+        Statement::Lock { tables } => lock_refusal(tables.as_slice(), database),
         Statement::Insert {
             table,
             columns,
@@ -52,6 +53,32 @@ pub(crate) fn drop_refusal(table: &Text, database: &Database) -> Result<Option<R
         })),
         Some(_) => Ok(None),
     }
+}
+
+/// What LOCK is refused for.
+pub(crate) fn lock_refusal(
+    tables: &[Text],
+    database: &Database,
+) -> Result<Option<Refusal>, AllocError>
+    ensures { IfOk result (λ refusal. refusal ≡
+        result_err (bound_lock (first_missing (def_of database.now) tables.now))) }
+{
+    match missing_table(tables, database) {
+        Some(name) => Ok(Some(Refusal::Unknown { name: name.copy()? })),
+        None => Ok(None),
+    }
+}
+
+// The first of these names that is no table.
+fn missing_table<'a>(tables: &'a [Text], database: &Database) -> Option<&'a Text>
+    ensures { option_copied result ≡ first_missing (def_of database.now) tables.now }
+{
+    for table in tables {
+        if database.get(table).is_none() {
+            return Some(table);
+        }
+    }
+    None
 }
 
 fn tuples_refusal(

@@ -1,12 +1,12 @@
 //! A statement run alone.
 ghost use Rattle.std.specs.Prelude.{◌≡◌, IfOk};
 ghost use Rattle.dw_model.specs.Alone.{alone, outcome_of, outcome_on};
-ghost use Rattle.dw_model.specs.Bound.{bound_drop, bound_insert, bound_query};
+ghost use Rattle.dw_model.specs.Bound.{bound_drop, bound_insert, bound_lock, bound_query, first_missing};
 ghost use Rattle.dw_model.specs.Databases.{def_of, rows_of};
 ghost use Rattle.dw_model.specs.Files.{Files};
 ghost use Rattle.dw_model.specs.Refusals.{after_result};
 
-use crate::bind::{columns_refusal, drop_refusal};
+use crate::bind::{columns_refusal, drop_refusal, lock_refusal};
 use crate::create::{create, create_refusal};
 use crate::insert::{insert, insert_refusal};
 use crate::select::select;
@@ -37,6 +37,7 @@ pub fn plain_outcome(
             None => Ok(Ok(create(alloc, spec)?)),
         },
         Statement::Drop { table } => drop_outcome(table, database),
+        Statement::Lock { tables } => lock_outcome(tables.as_slice(), database),
         Statement::Insert {
             table,
             columns,
@@ -61,6 +62,26 @@ fn drop_outcome(name: &Text, database: &Database) -> Result<Result<Outcome, Refu
             change: Change::Drops {
                 table: name.copy()?,
             },
+        })),
+    }
+}
+
+// What LOCK comes to, whichever files there are.
+fn lock_outcome(
+    tables: &[Text],
+    database: &Database,
+) -> Result<Result<Outcome, Refusal>, AllocError>
+    ensures { (files : Files) → IfOk result (λ outcome. outcome ≡
+        after_result (outcome_of files (rows_of database.now))
+        (bound_lock (first_missing (def_of database.now) tables.now))) }
+{
+    match lock_refusal(tables, database)? {
+        Some(refusal) => Ok(Err(refusal)),
+        None => Ok(Ok(Outcome {
+            answer: Answer::Plain {
+                word: Word::LockTable,
+            },
+            change: Change::Unchanged,
         })),
     }
 }
