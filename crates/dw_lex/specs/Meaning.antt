@@ -1,9 +1,9 @@
 -- What a token says.
-use Rattle.std.specs.Prelude.{◌≡◌, ℕ, ◌^◌, Bool, true, false, ◌==◌, ◌&&◌, nat_lt, if◌then◌else◌, Option, Some, None, List, [], ◌∷◌, map, length}
+use Rattle.std.specs.Prelude.{◌≡◌, ℕ, ◌^◌, Bool, true, false, ◌==◌, ◌&&◌, nat_lt, if◌then◌else◌, Option, Some, None, option_map, List, [], ◌∷◌, ◌++◌, map, length}
 use Rattle.std.specs.Char.{to_ascii_lowercase, is_ascii_digit}
-use Rattle.std.specs.List.{list_all}
+use Rattle.std.specs.List.{list_all, before_first, after_first}
 use Rattle.std.specs.Str.Parse.{digits_value}
-use Rattle.dw_lex.specs.Characters.{quote}
+use Rattle.dw_lex.specs.Characters.{quote, point}
 use Rattle.dw_lex.specs.declared.token.Form.{Form}
 use Rattle.dw_lex.specs.declared.token.Form.TheVariants.{Name, Number, Words, Sign}
 use Rattle.dw_lex.specs.declared.token.Token.{Token}
@@ -45,3 +45,23 @@ number_in (Sign sign) text = None
 
 abbrev pub whole_number : Token → Option ℕ
 whole_number token = number_in token.form token.text
+
+abbrev pub is_point : ℕ → Bool
+is_point b = b == point
+
+-- what digits with a point among them or without write: the number of all the digits, and how many of them stand after
+-- the point, which gives 150 and 2 for 1.50
+abbrev pub number_with_places : List ℕ → Option (ℕ × ℕ)
+number_with_places text =
+    option_map (λ number. (number, length (after_first is_point text)))
+    (number_of_digits (before_first is_point text ++ after_first is_point text))
+
+abbrev pub decimal_in : Form → List ℕ → Option (ℕ × ℕ)
+decimal_in Number text = number_with_places text
+decimal_in Name text = None
+decimal_in Words text = None
+decimal_in (Sign sign) text = None
+
+-- the number that a token of digits writes, with a point or without, and how many digits stand after the point
+abbrev pub decimal_number : Token → Option (ℕ × ℕ)
+decimal_number token = decimal_in token.form token.text

@@ -1,8 +1,8 @@
 //! What a token says.
-ghost use Rattle.std.specs.Prelude.{◌≡◌, false, IfOk};
+ghost use Rattle.std.specs.Prelude.{◌≡◌, ◌++◌, false, IfOk};
 ghost use Rattle.std.specs.Char.{is_ascii_digit};
 ghost use Rattle.std.specs.List.{list_all};
-ghost use Rattle.dw_lex.specs.Meaning.{said_by, said_after, number_of_digits};
+ghost use Rattle.dw_lex.specs.Meaning.{said_by, said_after, number_of_digits, number_with_places};
 
 use std::alloc::{AllocError, Global};
 
@@ -47,4 +47,32 @@ pub fn number_of_digits(text: &str) -> Option<u128>
     } else {
         None
     }
+}
+
+// Two texts as one.
+fn joined(alloc: Global, first: &str, second: &str) -> Result<String, AllocError>
+    ensures { IfOk result (λ joined. joined.bytes.items ≡ first.now ++ second.now) }
+{
+    let mut joined = String::new(alloc);
+    joined.push_str(first)?;
+    joined.push_str(second)?;
+    Ok(joined)
+}
+
+/// The number that digits write, with a point among them or without, where it is below 2^128 without its point, and how
+/// many digits stand after the point.
+pub fn number_with_places(alloc: Global, text: &str) -> Result<Option<(u128, usize)>, AllocError>
+    ensures { IfOk result (λ number. number ≡ number_with_places text.now) }
+{
+    let Some((whole, fraction)) = text.split_once('.') else {
+        return Ok(match number_of_digits(text) {
+            Some(number) => Some((number, 0)),
+            None => None,
+        });
+    };
+    let digits = joined(alloc, whole, fraction)?;
+    Ok(match number_of_digits(digits.as_str()) {
+        Some(number) => Some((number, fraction.len())),
+        None => None,
+    })
 }

@@ -159,11 +159,15 @@ fn tokens_say_what_they_stand_for(rt: HostRuntime) -> Result<(), Fail> {
         if let Some(number) = token.whole_number() {
             write!(said, "{number}")?;
         }
+        if let Some((number, places)) = token.decimal_number(alloc)? {
+            write!(said, "~{number}~{places}")?;
+        }
         said.push('|')?;
     }
     assert_eq!(rt;
         said.as_str(),
-        "select|it's|'||7|99999999999999999999999999999999999999||unequal|unequal|"
+        "select|it's|'||7~7~0|\
+         99999999999999999999999999999999999999~99999999999999999999999999999999999999~0|~15~1|unequal|unequal|"
     );
     Ok(())
 }

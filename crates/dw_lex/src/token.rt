@@ -1,7 +1,7 @@
 //! Tokens.
 ghost use Rattle.std.specs.Prelude.{◌≡◌, ◌↔◌, IsTrue, IfOk};
 
-use crate::meaning::{number_of_digits, said_by};
+use crate::meaning::{number_of_digits, number_with_places, said_by};
 use crate::signs::Sign;
 use dw_value::Text;
 use std::alloc::{AllocError, Global};
@@ -34,7 +34,7 @@ pub struct Token {
 
 impl Token {
     ghost use Rattle.dw_lex.specs.declared.token.Form.TheVariants as forms;
-    ghost use Rattle.dw_lex.specs.Meaning.{IsWord, folded, said_by, whole_number};
+    ghost use Rattle.dw_lex.specs.Meaning.{IsWord, folded, said_by, whole_number, decimal_number};
 
     /// Whether the token is this word, in whatever case its ASCII letters are. Only names are words; a text in quotes
     /// is none.
@@ -70,6 +70,18 @@ impl Token {
         match self.form {
             Form::Number => number_of_digits(self.text.as_str()),
             _ => None,
+        }
+    }
+
+    /// The number that a token of digits writes, with a point or without: the number of all its digits, and how many of
+    /// them stand after the point. 1.50 gives 150 and 2. `None` comes for any other token, and for digits that write
+    /// 2^128 or more, which no token of at most 38 digits does.
+    pub fn decimal_number(&self, alloc: Global) -> Result<Option<(u128, usize)>, AllocError>
+        ensures { IfOk result (λ number. number ≡ decimal_number self.now) }
+    {
+        match self.form {
+            Form::Number => number_with_places(alloc, self.text.as_str()),
+            _ => Ok(None),
         }
     }
 
