@@ -1,3 +1,6 @@
-pub mod ListLemmas
-pub mod GrammarLemmas
-pub mod StatementLemmas
+mod ListLemmas
+mod TableLemmas
+mod FoundLemmas
+mod PieceLemmas
+mod CreateLemmas
+mod StatementLemmas

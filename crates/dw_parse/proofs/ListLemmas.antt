@@ -1,10 +1,10 @@
--- Reading on after the first of several that commas part.
-use Rattle.std.proofs.Common.{◌≡◌, ℕ, zero, suc, ◌+◌, ◌<◌, ◌≤◌, true, false, Option, Some, None, List, [], ◌∷◌, ◌++◌, length, refl, sym, ◌∙◌, ap, append_assoc, arith}
+-- Reading on after the first of several.
+use Rattle.std.proofs.Common.{◌≡◌, ℕ, zero, suc, ◌+◌, ◌<◌, ◌≤◌, true, false, Option, Some, None, List, [], ◌∷◌, ◌++◌, length, refl, sym, ◌∙◌, ap, append_assoc, append-nil, arith}
 use Rattle.std.specs.Option.{option_map}
 use Rattle.dw_lex.specs.declared.signs.Sign.TheVariants as mark
 use Rattle.dw_lex.specs.declared.token.Token.{Token}
 use Rattle.dw_parse.specs.Words.{is_sign_at}
-use Rattle.dw_parse.specs.Reading.{listed_within, listed_at}
+use Rattle.dw_parse.specs.PieceReading.{listed_within, listed_at, repeated_within, repeated_at}
 
 -- those so far, and those after them
 abbrev pub with_front : {A : Type 0} → List A → Option (List A × ℕ) → Option (List A × ℕ)
@@ -46,3 +46,32 @@ module _ {A : Type 0} (x : ℕ → Option (A × ℕ)) (tokens : List Token) (fro
   pub reads_last : (a : A) (j : ℕ) → x at ≡ Some (a, j) → is_sign_at mark.Comma tokens j ≡ false
       → Reads x tokens front at all → Some (front ++ a ∷ [], j) ≡ all
   reads_last a j found comma so_far = last a j so_far.0 found comma so_far.1 so_far.2
+
+-- those so far, and those that are read from this place on without commas, are all
+abbrev pub Repeats : {A : Type 0} → (ℕ → Option (A × ℕ)) → List Token → List A → ℕ → List A × ℕ → Type 0
+Repeats x tokens front at all =
+    (limit : ℕ) × (length tokens < limit + at) × ((front ++ (repeated_within x limit at).0, (repeated_within x limit at).1) ≡ all)
+
+pub repeats_all : {A : Type 0} (x : ℕ → Option (A × ℕ)) (tokens : List Token) (at : ℕ) → Repeats x tokens [] at (repeated_at x tokens at)
+repeats_all x tokens at = (suc (length tokens), omega arith, refl)
+
+module _ {A : Type 0} (x : ℕ → Option (A × ℕ)) (tokens : List Token) (front : List A) (at : ℕ) (all : List A × ℕ) (within : at ≤ length tokens) where
+  next : (a : A) (j limit : ℕ) → x at ≡ Some (a, j) → at < j → length tokens < limit + at
+      → (front ++ (repeated_within x limit at).0, (repeated_within x limit at).1) ≡ all → Repeats x tokens (front ++ a ∷ []) j all
+  next a j zero found after big so_far = absurd (omega arith)
+  next a j (suc limit) found after big so_far = (
+    limit,
+    omega arith,
+    ap (λ (xs : List A). (xs, (repeated_within x limit j).1)) (append_assoc front (a ∷ []) (repeated_within x limit j).0) ∙ rw found at so_far,
+  )
+
+  pub repeats_more : (a : A) (j : ℕ) → x at ≡ Some (a, j) → at < j → Repeats x tokens front at all → Repeats x tokens (front ++ a ∷ []) j all
+  repeats_more a j found after so_far = next a j so_far.0 found after so_far.1 so_far.2
+
+  ended : (limit : ℕ) → x at ≡ None → length tokens < limit + at
+      → (front ++ (repeated_within x limit at).0, (repeated_within x limit at).1) ≡ all → (front, at) ≡ all
+  ended zero found big so_far = absurd (omega arith)
+  ended (suc limit) found big so_far = ap (λ (xs : List A). (xs, at)) (sym (append-nil front)) ∙ rw found at so_far
+
+  pub repeats_last : x at ≡ None → Repeats x tokens front at all → (front, at) ≡ all
+  repeats_last found so_far = ended so_far.0 found so_far.1 so_far.2

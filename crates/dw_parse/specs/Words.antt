@@ -1,11 +1,10 @@
 -- What the token at a place of a statement is, as the grammar takes it. Places are counted in tokens, from 0. After the
--- last token nothing is found. The reserved words and the kinds' limits are this project's profile of the Amazon
--- Redshift guide.
-use Rattle.std.specs.Prelude.{ℕ, ◌^◌, pos, Bool, true, false, ◌&&◌, nat_eq, nat_le, nat_lt, if◌then◌else◌, Option, Some, None, List, [], ◌∷◌, slice_get, codes}
-use Rattle.std.specs.Option.{option_map, option_and_then}
+-- last token nothing is found. The reserved words are this project's profile of the Amazon Redshift guide.
+use Rattle.std.specs.Prelude.{ℕ, ◌^◌, Bool, true, false, ◌&&◌, nat_eq, nat_lt, if◌then◌else◌, Option, Some, None, List, [], ◌∷◌, slice_get, codes}
+use Rattle.std.specs.Option.{option_and_then}
 use Rattle.std.specs.List.{list_any}
 use Rattle.std.specs.Cmp.Lexicographic.{pointwise}
-use Rattle.dw_lex.specs.Meaning.{folded, said_by, whole_number}
+use Rattle.dw_lex.specs.Meaning.{folded, whole_number}
 use Rattle.dw_lex.specs.declared.signs.Sign.{Sign as Mark}
 use Rattle.dw_lex.specs.declared.signs.Sign.TheVariants as mark
 use Rattle.dw_lex.specs.declared.token.Form.{Form}
@@ -13,8 +12,6 @@ use Rattle.dw_lex.specs.declared.token.Form.TheVariants as form
 use Rattle.dw_lex.specs.declared.token.Token.{Token}
 use Rattle.dw_value.specs.declared.kinds.Comparison.{Comparison}
 use Rattle.dw_value.specs.declared.kinds.Comparison.TheVariants as test
-use Rattle.dw_value.specs.declared.values.Value.{Value}
-use Rattle.dw_value.specs.declared.values.Value.TheVariants as value
 
 abbrev pub is_name : Form → Bool
 is_name form.Name = true
@@ -61,19 +58,14 @@ below_limit (Some n) = if nat_lt n (10 ^ 38) then Some n else None
 abbrev pub number_of : Token → Option ℕ
 number_of token = below_limit (whole_number token)
 
--- how many bytes a VARCHAR may hold: 1 to 65,535
-abbrev pub in_length : ℕ → Option ℕ
-in_length n = if nat_le 1 n && nat_le n 65535 then Some n else None
+-- what this token says of the words of a table, if it is one of them, whatever the case of its letters
+abbrev pub meant : {A : Type 0} → List (List ℕ × A) → Token → Option A
+meant [] token = None
+meant (entry ∷ entries) token = if says entry.0 token then Some entry.1 else meant entries token
 
--- a literal of one token: digits, a text, or the word null
-abbrev pub literal_in : Form → Token → Option Value
-literal_in form.Name token = if says (codes "null") token then Some value.Null else None
-literal_in form.Number token = option_map (λ n. value.Number (pos n)) (number_of token)
-literal_in form.Words token = Some (value.Words (said_by token.text))
-literal_in (form.Sign sign) token = None
-
-abbrev pub literal_of : Token → Option Value
-literal_of token = literal_in token.form token
+abbrev pub meant_in : {A : Type 0} → List (List ℕ × A) → Option Token → Option A
+meant_in entries None = None
+meant_in entries (Some token) = meant entries token
 
 -- the comparison that a sign says
 abbrev pub comparison_of : Option Mark → Option Comparison
@@ -125,5 +117,5 @@ name_at tokens i = option_and_then name_of (slice_get tokens i)
 abbrev pub number_at : List Token → ℕ → Option ℕ
 number_at tokens i = option_and_then number_of (slice_get tokens i)
 
-abbrev pub literal_at : List Token → ℕ → Option Value
-literal_at tokens i = option_and_then literal_of (slice_get tokens i)
+abbrev pub meant_at : {A : Type 0} → List (List ℕ × A) → List Token → ℕ → Option A
+meant_at entries tokens i = meant_in entries (slice_get tokens i)

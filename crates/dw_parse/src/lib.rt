@@ -1,18 +1,26 @@
 //! The statement that the tokens of a text stand for.
 //!
-//! The grammar is this project's profile of the SQL of the Amazon Redshift guide: CREATE TABLE with INTEGER and VARCHAR
-//! columns, INSERT of tuples of literals, SELECT of columns of one table with at most one comparison, and the
-//! statements that begin and end a block: BEGIN, START TRANSACTION, COMMIT, END, ROLLBACK and ABORT.
+//! The grammar is this project's profile of the SQL of the Amazon Redshift guide: CREATE TABLE with options, constraints
+//! and attributes, DROP TABLE, INSERT of tuples of literals, SELECT of columns of one table with at most one comparison,
+//! and the statements that begin and end a block: BEGIN, START TRANSACTION, COMMIT, END, ROLLBACK and ABORT.
 #![tactic(auto)]
 
+mod attributes;
 mod block;
+mod columns;
 mod create;
 mod fault;
 mod insert;
+mod kinds;
 mod laws;
 mod lists;
+mod literals;
+mod names;
+mod options;
 mod parser;
+mod parts;
 mod select;
+mod tables;
 mod words;
 
 pub use fault::ParseFault;

@@ -1,7 +1,7 @@
 //! `x {, x}` for any x: one after the other, with a comma between two.
 ghost use Rattle.std.specs.Prelude.{◌≡◌, ℕ, ◌<◌, ◌≤◌, length, List as Items, Option as Optional, IfOk, IfSome};
 ghost use Rattle.dw_lex.specs.declared.token.Token.{Token as Piece};
-ghost use Rattle.dw_parse.specs.Reading.{listed_at};
+ghost use Rattle.dw_parse.specs.PieceReading.{listed_at, repeated_at};
 
 use crate::words::is_sign_at;
 use dw_lex::{Sign, Token};
@@ -47,5 +47,26 @@ pub fn listed_at<X: Element>(
             return Ok(Some((elements, end)));
         }
         at = end + 1;
+    }
+}
+
+/// The elements from a place on, as long as there is one, with the place after the last.
+pub fn repeated_at<X: Element>(
+    alloc: Global,
+    tokens: &List<Token>,
+    start: usize,
+) -> Result<(List<X>, usize), AllocError>
+    requires { start ≤ length tokens.now }
+    ensures value { IfOk result (λ found. found ≡ repeated_at (X.read_at tokens.now) tokens.now start) }
+    ensures within { IfOk result (λ found. (start ≤ found.1) × (found.1 ≤ length tokens.now)) }
+{
+    let mut elements = List::new(alloc);
+    let mut at = start;
+    loop {
+        let Some((element, end)) = X::at(alloc, tokens, at)? else {
+            return Ok((elements, at));
+        };
+        elements.push(element)?;
+        at = end;
     }
 }

@@ -4,7 +4,7 @@ ghost use Rattle.dw_parse.specs.Reading.{read_statement};
 ghost use Rattle.dw_parse.specs.Gives.{Gives};
 
 use crate::block::read_block;
-use crate::create::read_create;
+use crate::create::{read_create, read_drop};
 use crate::fault::ParseFault;
 use crate::insert::read_insert;
 use crate::select::read_select;
@@ -19,6 +19,8 @@ fn read_statement(alloc: Global, tokens: &List<Token>) -> Result<Option<Statemen
 {
     if word_at(tokens, 0, "create") {
         read_create(alloc, tokens)
+    } else if word_at(tokens, 0, "drop") {
+        read_drop(alloc, tokens)
     } else if word_at(tokens, 0, "insert") {
         read_insert(alloc, tokens)
     } else if word_at(tokens, 0, "select") {

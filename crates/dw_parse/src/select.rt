@@ -2,31 +2,13 @@
 ghost use Rattle.std.specs.Prelude.{◌≡◌, ◌<◌, ◌≤◌, length, IfOk};
 ghost use Rattle.dw_parse.specs.Reading.{test_at, condition_at, read_select, select_after};
 
-use crate::create::table_at;
 use crate::lists::{Element, listed_at};
+use crate::names::table_at;
 use crate::words::{comparison_of, name_at, sign_at, word_at};
 use dw_lex::Token;
-use dw_model::{Query, Statement, Test};
-use dw_value::{List, Text, Value};
+use dw_model::{Literal, Query, Statement, Test};
+use dw_value::{List, Text};
 use std::alloc::{AllocError, Global};
-
-// `name`
-impl Element for Text {
-    ghost use Rattle.dw_parse.specs.Reading.{named_at};
-
-    ghost read_at = { named_at };
-
-    fn at(
-        alloc: Global,
-        tokens: &List<Token>,
-        at: usize,
-    ) -> Result<Option<(Text, usize)>, AllocError> {
-        match name_at(alloc, tokens, at)? {
-            Some(name) => Ok(Some((name, at + 1))),
-            None => Ok(None),
-        }
-    }
-}
 
 // The test after the word `where` at this place, up to the end.
 fn test_at(alloc: Global, tokens: &List<Token>, at: usize) -> Result<Option<Test>, AllocError>
@@ -43,7 +25,7 @@ fn test_at(alloc: Global, tokens: &List<Token>, at: usize) -> Result<Option<Test
     let Some(comparison) = comparison_of(Some(sign)) else {
         return Ok(None);
     };
-    let Some((literal, end)) = Value::at(alloc, tokens, at + 3)? else {
+    let Some((literal, end)) = Literal::at(alloc, tokens, at + 3)? else {
         return Ok(None);
     };
     if end == tokens.len() {

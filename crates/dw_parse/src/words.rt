@@ -1,11 +1,13 @@
 //! What the token at a place is, as the grammar takes it.
-ghost use Rattle.std.specs.Prelude.{◌≡◌, ◌<◌, ◌^◌, length, slice_get, true, IfOk, IfSome, OnSome};
+ghost use Rattle.std.specs.Prelude.{◌≡◌, ℕ, ◌<◌, ◌^◌, length, List as Items, slice_get, true, IfOk, IfSome, OnSome};
 ghost use Rattle.std.specs.Option.{option_copied};
-ghost use Rattle.dw_parse.specs.Words.{sign_of, says, is_reserved, name_of, number_of, in_length, literal_of};
-ghost use Rattle.dw_parse.specs.Words.{comparison_of, word_at, sign_at, is_sign_at, name_at, number_at, literal_at};
+ghost use Rattle.dw_lex.specs.Meaning.{decimal_number};
+ghost use Rattle.dw_parse.specs.Words.{sign_of, says, is_reserved, name_of, number_of, meant};
+ghost use Rattle.dw_parse.specs.Words.{comparison_of, word_at, sign_at, is_sign_at, name_at, number_at, meant_at};
+ghost use Rattle.dw_parse.specs.Literals.{within_digits, text_of, digits_at, text_at};
 
 use dw_lex::{Form, Sign, Token};
-use dw_value::{Comparison, List, Text, Value};
+use dw_value::{Comparison, List, Text};
 use std::alloc::{AllocError, Global};
 
 // One more than the greatest number of 38 digits.
@@ -101,7 +103,8 @@ fn sign_of(form: Form) -> Option<Sign>
     }
 }
 
-fn says(token: &Token, word: &str) -> bool
+/// Whether a token is this word.
+pub fn says(token: &Token, word: &str) -> bool
     ensures { result ≡ says word.now token.now }
 {
     token.is_word(word)
@@ -134,37 +137,6 @@ fn number_of(token: &Token) -> Option<u128>
         Some(number)
     } else {
         None
-    }
-}
-
-/// The number of bytes that a VARCHAR may hold, where this is one.
-pub fn in_length(number: u128) -> Option<u32>
-    ensures { result ≡ in_length number }
-{
-    if 1 <= number && number <= 65_535 {
-        Some(number as u32)
-    } else {
-        None
-    }
-}
-
-fn literal_of(alloc: Global, token: &Token) -> Result<Option<Value>, AllocError>
-    ensures { IfOk result (λ value. value ≡ literal_of token.now) }
-{
-    match token.form {
-        Form::Name => {
-            if says(token, "null") {
-                Ok(Some(Value::Null))
-            } else {
-                Ok(None)
-            }
-        }
-        Form::Number => match number_of(token) {
-            Some(number) => Ok(Some(Value::Number(number as i128))),
-            None => Ok(None),
-        },
-        Form::Words => Ok(Some(Value::Words(token.words(alloc)?))),
-        Form::Sign(_) => Ok(None),
     }
 }
 
@@ -235,18 +207,76 @@ pub fn number_at(tokens: &List<Token>, at: usize) -> Option<u128>
     }
 }
 
-/// The literal of one token at a place.
-pub fn literal_at(
-    alloc: Global,
-    tokens: &List<Token>,
-    at: usize,
-) -> Result<Option<Value>, AllocError>
-    ensures value { IfOk result (λ value. value ≡ literal_at tokens.now at) }
-    ensures within { IfOk result (λ value. OnSome value (at < length tokens.now)) }
+/// What one word says: the words of a table.
+pub trait Said: Drop {
+    /// The words, and what each says.
+    ghost words: { Items (Items ℕ × Self) };
+
+    /// What a token says, if it is one of the words.
+    fn of(token: &Token) -> Option<Self>
+        ensures { result ≡ meant words token.now };
+}
+
+/// What the token at a place says, if it is one of the words.
+pub fn meant_at<W: Said>(tokens: &List<Token>, at: usize) -> Option<W>
+    ensures value { result ≡ meant_at W.words tokens.now at }
+    ensures within { OnSome result (at < length tokens.now) }
     ensures few { length tokens.now < 2 ^ 64 }
 {
     match token_at(tokens, at) {
-        Some(token) => literal_of(alloc, token),
+        Some(token) => W::of(token),
+        None => None,
+    }
+}
+
+fn digits_of(alloc: Global, token: &Token) -> Result<Option<(u128, u8)>, AllocError>
+    ensures value { IfOk result (λ digits. digits ≡ within_digits (decimal_number token.now)) }
+    ensures small { IfOk result (λ digits. IfSome digits (λ found. found.0 < 10 ^ 38)) }
+{
+    let Some((number, places)) = token.decimal_number(alloc)? else {
+        return Ok(None);
+    };
+    if number < NUMBER_LIMIT && places <= 37 {
+        Ok(Some((number, places as u8)))
+    } else {
+        Ok(None)
+    }
+}
+
+/// The number of the digits at a place without their point, and how many of them stand after the point.
+pub fn digits_at(
+    alloc: Global,
+    tokens: &List<Token>,
+    at: usize,
+) -> Result<Option<(u128, u8)>, AllocError>
+    ensures value { IfOk result (λ digits. digits ≡ digits_at tokens.now at) }
+    ensures within { IfOk result (λ digits. OnSome digits (at < length tokens.now)) }
+    ensures few { length tokens.now < 2 ^ 64 }
+    ensures small { IfOk result (λ digits. IfSome digits (λ found. found.0 < 10 ^ 38)) }
+{
+    match token_at(tokens, at) {
+        Some(token) => digits_of(alloc, token),
+        None => Ok(None),
+    }
+}
+
+fn text_of(alloc: Global, token: &Token) -> Result<Option<Text>, AllocError>
+    ensures { IfOk result (λ text. text ≡ text_of token.now) }
+{
+    match token.form {
+        Form::Words => Ok(Some(token.words(alloc)?)),
+        _ => Ok(None),
+    }
+}
+
+/// What the text at a place says.
+pub fn text_at(alloc: Global, tokens: &List<Token>, at: usize) -> Result<Option<Text>, AllocError>
+    ensures value { IfOk result (λ text. text ≡ text_at tokens.now at) }
+    ensures within { IfOk result (λ text. OnSome text (at < length tokens.now)) }
+    ensures few { length tokens.now < 2 ^ 64 }
+{
+    match token_at(tokens, at) {
+        Some(token) => text_of(alloc, token),
         None => Ok(None),
     }
 }

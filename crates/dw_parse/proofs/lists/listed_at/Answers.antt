@@ -1,7 +1,7 @@
 use Rattle.std.proofs.Common.{◌≡◌, ◌<◌, ◌≤◌, ◌+◌, length, rules, true, false, Some, arith}
 use Rattle.dw_lex.specs.declared.signs.Sign.TheVariants as mark
 use Rattle.dw_parse.specs.Words.{is_sign_at}
-use Rattle.dw_parse.specs.Reading.{listed_at}
+use Rattle.dw_parse.specs.PieceReading.{listed_at}
 use Rattle.dw_parse.proofs.ListLemmas.{reads_all, reads_more, reads_last}
 use Rattle.dw_parse.proofs.lists.listed_at.Goals as goal
 

@@ -1,6 +1,6 @@
 -- The elements so far and those after them are all.
 use Rattle.std.proofs.Common.{◌-◌, ◌≤◌, length}
-use Rattle.dw_parse.specs.Reading.{listed_at}
+use Rattle.dw_parse.specs.PieceReading.{listed_at}
 use Rattle.dw_parse.proofs.ListLemmas.{Reads}
 use Rattle.dw_parse.proofs.lists.listed_at.Given as goal
 
