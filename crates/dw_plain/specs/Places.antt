@@ -33,7 +33,7 @@ value_at values place = unwrap_or (found_at values place) Null
 abbrev pub values_at : List (Option ℕ) → Row → Row
 values_at places row = record { values = map (value_at row.values) places }
 
--- a test of columns of these kinds, with its column's place and the value that it is compared with
+-- a test of a table with these columns, with the place of its column and the value that this is compared with
 abbrev pub condition_of : List Column → Test → Condition
 condition_of columns test = record {
   place = place_of columns test.column;
