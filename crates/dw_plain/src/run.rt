@@ -37,7 +37,7 @@ pub fn plain_outcome(
             None => Ok(Ok(create(alloc, spec)?)),
         },
         Statement::Drop { table } => drop_outcome(table, database),
-        Statement::Lock { tables } => lock_outcome(tables.as_slice(), database),
+        Statement::Lock { tables } => lock_outcome(tables, database),
         Statement::Insert {
             table,
             columns,
@@ -68,14 +68,14 @@ fn drop_outcome(name: &Text, database: &Database) -> Result<Result<Outcome, Refu
 
 // What LOCK comes to, whichever files there are.
 fn lock_outcome(
-    tables: &[Text],
+    tables: &List<Text>,
     database: &Database,
 ) -> Result<Result<Outcome, Refusal>, AllocError>
     ensures { (files : Files) → IfOk result (λ outcome. outcome ≡
         after_result (outcome_of files (rows_of database.now))
         (bound_lock (first_missing (def_of database.now) tables.now))) }
 {
-    match lock_refusal(tables, database)? {
+    match lock_refusal(tables.as_slice(), database)? {
         Some(refusal) => Ok(Err(refusal)),
         None => Ok(Ok(Outcome {
             answer: Answer::Plain {
