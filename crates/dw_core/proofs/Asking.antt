@@ -18,7 +18,7 @@ use Rattle.dw_journal.specs.Contents.{view}
 use Rattle.dw_journal.specs.Locks.{lock_state, wants_of}
 use Rattle.dw_journal.specs.Turns.{Turn, Works, number_due}
 use Rattle.dw_journal.specs.Follows.{IsOpening, is_wait, is_opening_refused, work_outside, work_within, FollowsAfter}
-use Rattle.dw_journal.specs.Legal.{IsLockWait, IsNextEvent, IsRefusal, IsWaitOf, blockers_of, cycle_of, opening_refusal, unless_blocked}
+use Rattle.dw_journal.specs.Legal.{IsLockWait, IsNextEvent, IsRefusal, IsWait, IsWaitOf, blockers_of, cycle_of, opening_refusal, unless_blocked}
 use Rattle.dw_locks.specs.LockTable.{LockTable, StandsForLocks, entry_of, table_blockers, table_cycle, waiting}
 use Rattle.dw_locks.specs.Requests.{answer_by, answer_to, table_after}
 use Rattle.dw_locks.specs.declared.locks.Asked.TheVariants.{Granted, Waits, Deadlock}
@@ -91,12 +91,15 @@ module _ (history : History) (session : ℕ) (is : IsSession history.world sessi
       by_block Within stands = follows_taken history session is (Works statement) Within event to_ask.0.1 stands (work_within opening)
       by_block Aborted stands = absurd (to_ask.1 stands)
 
+  pub wait_follows : (holders : List ℕ) → FollowsAfter history (wait_due history session holders)
+  wait_follows holders = opening_follows (Wait session k holders) (is_wait holders)
+
+  pub is_lock_wait : (holders : List ℕ) → IsLockWait history session k holders → IsWait history session k holders
+  is_lock_wait holders waits = subst (λ (turn : Turn). IsWaitOf history session k holders turn) (sym to_ask.0.1) waits
+
   pub wait_comes : (holders : List ℕ) → IsLockWait history session k holders → newest_event session history.events ≢ Some (Wait session k holders)
       → IsNextEvent history (wait_due history session holders)
-  wait_comes holders waits other = (
-    opening_follows (Wait session k holders) (is_wait holders),
-    (subst (λ (turn : Turn). IsWaitOf history session k holders turn) (sym to_ask.0.1) waits, other),
-  )
+  wait_comes holders waits other = (wait_follows holders, (is_lock_wait holders waits, other))
 
   closes_first : (cycle : List ℕ) (holders : List ℕ) (closed : Option (List ℕ)) (otherwise : Option Refusal) (first : ℕ) (rest : List ℕ) → holders ≡ first ∷ rest → closed ≡ Some cycle
       → unless_blocked holders closed otherwise ≡ Some (refusals.Deadlock cycle)

@@ -50,7 +50,7 @@ either_outside false = refl
 
 -- a decision on a commit ends the transaction, whatever was kept of it
 pub decided_alike : (history : History) (session k : ℕ) (result : Committed) (kept : Session)
-    → session_after history.world (decision_of session k result) (record { taken = kept.taken; stage = kept.stage; block = kept.block; transaction = None })
+    → session_after history.world (decision_of session k result) (record { taken = kept.taken; stage = kept.stage; block = kept.block; transaction = None; waits = kept.waits })
     ≡ session_after history.world (decision_of session k result) kept
 decided_alike history session k (decisions.Stamped stamp low high) kept = refl
 decided_alike history session k (decisions.Violation low high object) kept = refl

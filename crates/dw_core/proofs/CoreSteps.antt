@@ -10,7 +10,7 @@ use Rattle.dw_journal.specs.declared.BlockState.{BlockState}
 use Rattle.dw_journal.specs.declared.BlockState.TheVariants.{Outside, Within, Aborted}
 use Rattle.dw_journal.specs.declared.Certified.{Certified}
 use Rattle.dw_journal.specs.declared.Event.{Event}
-use Rattle.dw_journal.specs.declared.Event.TheVariants.{Begin, Pass, Opened, Answer, Commit, Refuse, Rollback, VacuumBegin, VacuumSlice, Refresh, End}
+use Rattle.dw_journal.specs.declared.Event.TheVariants.{Begin, Pass, Wait, Opened, Answer, Commit, Refuse, Rollback, VacuumBegin, VacuumSlice, Refresh, End}
 use Rattle.dw_journal.specs.Worlds.{IsSession}
 use Rattle.dw_journal.specs.History.{History, with_event, session_of, is_of}
 use Rattle.dw_journal.specs.Blocks.{block_after}
@@ -143,6 +143,7 @@ plain_calm history session event is = tt
 
 plain_opens : (session : ℕ) (event : Event) → IsPlain session event → OpensNothing event
 plain_opens session (Opened other k snapshot route) is = absurd is
+plain_opens session (Wait other k holders) is = absurd is
 plain_opens session (VacuumBegin other k table) is = absurd is
 plain_opens session (VacuumSlice other k slice horizon) is = absurd is
 plain_opens session event is = tt

@@ -10,5 +10,6 @@ pub mod OpenTransactions
 pub mod Driver
 pub mod Horizons
 pub mod Waiting
+pub mod Waited
 pub mod Locking
 pub mod Asking

@@ -17,7 +17,7 @@ use Rattle.dw_core.specs.declared.sessions.Stage.TheVariants as stage
 use Rattle.dw_core.specs.CoreInvariant.{CoreInvariant, IsKept, owed_events, total_owed}
 
 abbrev pub fresh : Session
-fresh = record { taken = 0; stage = stage.Between; block = Outside; transaction = None }
+fresh = record { taken = 0; stage = stage.Between; block = Outside; transaction = None; waits = None }
 
 abbrev pub AreFresh : List Session → Type 0
 AreFresh [] = Unit {0}
@@ -43,7 +43,7 @@ module _ (shape : Shape) (world : World) where
   at events = record { shape = shape; world = world; events = events }
 
   is_kept_fresh : (session : ℕ) → IsKept (at []) session fresh
-  is_kept_fresh session = record { count_is = refl; block_is = refl; turn_is = refl; at_stage = tt; taken_is = refl; names = tt }
+  is_kept_fresh session = record { count_is = refl; block_is = refl; turn_is = refl; at_stage = tt; taken_is = refl; names = tt; waits_is = refl }
 
   pub agrees_new : (items : List Event) (sessions : List Session) (certifier : Summaries) (table : LockTable) (count capacity : ℕ) → items ≡ [] → AreFresh sessions
       → StandsFor certifier (record { oldest = 0; commits = [] }) → table ≡ replicate (shape.sessions + 1) free_entry → count ≡ 0 → length sessions ≡ session_count world → shape.sessions ≡ session_count world → AreShort world.scripts

@@ -8,7 +8,7 @@ use Rattle.dw_model.specs.Objects.{IsAscendingObjects, with_objects, reads_of, w
 use Rattle.dw_journal.specs.declared.BlockState.{BlockState}
 use Rattle.dw_journal.specs.declared.BlockState.TheVariants.{Outside, Within, Aborted}
 use Rattle.dw_journal.specs.declared.Event.{Event}
-use Rattle.dw_journal.specs.declared.Event.TheVariants.{Opened, Answer, Commit, Violation, Refuse, Rollback, VacuumBegin, VacuumSlice, VacuumEnd, Refresh, End}
+use Rattle.dw_journal.specs.declared.Event.TheVariants.{Wait, Opened, Answer, Commit, Violation, Refuse, Rollback, VacuumBegin, VacuumSlice, VacuumEnd, Refresh, End}
 use Rattle.dw_journal.specs.declared.Route.{Route}
 use Rattle.dw_journal.specs.declared.Taken.{Taken}
 use Rattle.dw_journal.specs.Worlds.{given_at, statement_at}
@@ -24,8 +24,8 @@ use Rattle.dw_journal.proofs.TakenObjects.{objects_over-ascending}
 use Rattle.dw_core.specs.declared.sessions.Session.{Session}
 use Rattle.dw_core.specs.declared.sessions.Stage.TheVariants as stage
 use Rattle.dw_core.specs.declared.transactions.Transaction.{Transaction as KeptTransaction}
-use Rattle.dw_core.specs.Changes.{AreSets, answered_stage, session_after, stage_after, footprint_of, opened_transaction}
-use Rattle.dw_core.specs.CoreInvariant.{IsAtStage, IsKeptBy, IsKept, IsWithin, HasNames, taken_in, turn_meant}
+use Rattle.dw_core.specs.Changes.{AreSets, answered_stage, session_after, stage_after, footprint_of, opened_transaction, waits_after}
+use Rattle.dw_core.specs.CoreInvariant.{IsAtStage, IsKeptBy, IsKept, IsWithin, HasNames, holders_in, taken_in, turn_meant}
 
 module _ (history : History) (event : Event) (session : ℕ) where
   -- what is kept once an event came that is of the session, or of another
@@ -47,8 +47,9 @@ module _ (history : History) (event : Event) (session : ℕ) where
   pub kept_once : (kept : Session) → session_of event ≡ Some session → IsKeptOnce true kept → IsKept (with_event history event) session kept
   kept_once kept is once = subst (λ (own : Bool). IsKeptOnce own kept) (sym (own_one is)) once
 
--- an event of a session that opens no statement and no vacuum
+-- an event of a session that opens no statement and no vacuum, and is no wait
 abbrev pub OpensNothing : Event → Type 0
+OpensNothing (Wait session statement holders) = ⊥
 OpensNothing (Opened session statement snapshot route) = ⊥
 OpensNothing (VacuumBegin session statement table) = ⊥
 OpensNothing (VacuumSlice session statement slice horizon) = ⊥
@@ -126,6 +127,10 @@ module _ (history : History) (session : ℕ) (kept : Session) (is_kept : IsKept 
   names_own (End other) = tt
   names_own event = is_kept.names
 
+  waits_own : (event : Event) → OpensNothing event → holders_in (Some event) ≡ waits_after event kept.waits
+  waits_own (Wait other k holders) none = absurd none
+  waits_own event none = refl
+
   -- the session's event opens nothing
   pub kept_after_own : (event : Event) → session_of event ≡ Some session → OpensNothing event → IsOfTransaction event transaction
       → IsKept (with_event history event) session (session_after history.world event kept)
@@ -138,6 +143,23 @@ module _ (history : History) (session : ℕ) (kept : Session) (is_kept : IsKept 
         at_stage = stage_own event none some;
         taken_is = taken_own event none;
         names = names_own event;
+        waits_is = waits_own event none;
+      })
+
+  -- the session waits
+  pub kept_waiting : (k : ℕ) (holders : List ℕ) (waits : Option (List ℕ)) → Some holders ≡ waits
+      → IsKept (with_event history (Wait session k holders)) session
+      (record { taken = kept.taken; stage = stage.Between; block = kept.block; transaction = kept.transaction; waits = waits })
+  kept_waiting k holders waits is =
+      kept_once history (Wait session k holders) session _ refl
+      (record {
+        count_is = is_kept.count_is;
+        block_is = is_kept.block_is;
+        turn_is = ap next_from is_kept.count_is;
+        at_stage = tt;
+        taken_is = is_kept.taken_is;
+        names = is_kept.names;
+        waits_is = is;
       })
 
   opened_some : (snapshot : ℕ) (t : Option Transaction) → is_some (opened_in snapshot t) ≡ true
@@ -175,7 +197,7 @@ module _ (history : History) (session : ℕ) (kept : Session) (is_kept : IsKept 
   pub kept_opened : (k snapshot : ℕ) (route : Route) (statement : Statement) → statement_at history.world session k ≡ Some statement
       → call_of_statement statement ≡ Works statement → AreAnswered (opened_statements session history.events) transaction
       → IsKept (with_event history (Opened session k snapshot route)) session
-      (record { taken = k; stage = stage.Opened; block = kept.block; transaction = Some (opened_transaction (footprint_of (statement_at history.world session k)) snapshot kept.transaction) })
+      (record { taken = k; stage = stage.Opened; block = kept.block; transaction = Some (opened_transaction (footprint_of (statement_at history.world session k)) snapshot kept.transaction); waits = None })
   kept_opened k snapshot route statement there works are =
       kept_once history (Opened session k snapshot route) session _ refl
       (record {
@@ -185,6 +207,7 @@ module _ (history : History) (session : ℕ) (kept : Session) (is_kept : IsKept 
         at_stage = (record { statement = statement; given = there; works = works }, opened_some snapshot transaction);
         taken_is = taken_opened k snapshot (opened_statements session history.events) transaction kept.transaction are is_kept.taken_is;
         names = names_opened k snapshot kept.transaction is_kept.names;
+        waits_is = refl;
       })
 
 -- what is kept of a transaction are sets

@@ -17,9 +17,9 @@ use Rattle.dw_locks.specs.LockTable.{wants_waited}
 use Rattle.dw_core.specs.Changes.{IsPlain, ends_transaction}
 use Rattle.dw_core.proofs.DueEvents.{MayWait, TakesAtOnce, told}
 
--- a statement is to be taken that may wait
-abbrev pub TakesLater : Turn → Type 0
-TakesLater turn = (k : ℕ) × (call : Call) × (turn ≡ Taking k call) × MayWait call
+-- this statement is to be taken, which may wait
+abbrev pub TakesLater : ℕ → Turn → Type 0
+TakesLater k turn = (call : Call) × (turn ≡ Taking k call) × MayWait call
 
 module _ (shape : Shape) (world : World) where
   abbrev past : List Event → History
@@ -37,26 +37,26 @@ module _ (shape : Shape) (world : World) where
   inside a b same = cc
 
   waits_now : (older : List Event) (n other k : ℕ) (holders : List ℕ) → is_of (suc n) (Wait other k holders) ≡ true
-      → FollowsAfter (past older) (Wait other k holders) → TakesLater (turn_by (Wait other k holders) older n true)
+      → FollowsAfter (past older) (Wait other k holders) → TakesLater k (turn_by (Wait other k holders) older n true)
   waits_now older n other k holders own follows =
       let of_it : session_of (Wait other k holders) ≡ Some (suc n) = ap Some (eqb-true other (suc n) own) in
       let due = told (past older) (suc n) (Wait other k holders) of_it follows in
       let number = statements_taken (suc n) older + 1 in
       let given = turn_given shape (block_by world (suc n) older) (newest_event (suc n) older) number k (given_at world (suc n) number) due.0 due.1 in
-      (number, due.0, ap (taking number) given.2 ∙ ap (Taking number) given.3, due.2)
+      (due.0, ap (taking number) given.2 ∙ ap (Taking number) given.3 ∙ ap (λ (j : ℕ). Taking j due.0) given.1, due.2)
 
   waits_by : (event : Event) (older : List Event) (n : ℕ) (b : Bool) → is_of (suc n) event ≡ b → FollowsAfter (past older) event
       → (other k : ℕ) (holders : List ℕ) → (if b then Some event else newest_event (suc n) older) ≡ Some (Wait other k holders)
-      → (newest_event (suc n) older ≡ Some (Wait other k holders) → TakesLater (turn_of (past older) (suc n)))
-      → TakesLater (turn_by event older n b)
+      → (newest_event (suc n) older ≡ Some (Wait other k holders) → TakesLater k (turn_of (past older) (suc n)))
+      → TakesLater k (turn_by event older n b)
   waits_by event older n false not_own follows other k holders newest later = later newest
   waits_by event older n true own follows other k holders newest later =
       let it : Wait other k holders ≡ event = sym (inside event (Wait other k holders) newest) in
-      subst (λ (e : Event). is_of (suc n) e ≡ true → FollowsAfter (past older) e → TakesLater (turn_by e older n true)) it
+      subst (λ (e : Event). is_of (suc n) e ≡ true → FollowsAfter (past older) e → TakesLater k (turn_by e older n true)) it
       (waits_now older n other k holders) own follows
 
   pub waits_later : (events : List Event) → EachFollows shape world events → (n other k : ℕ) (holders : List ℕ)
-      → newest_event (suc n) events ≡ Some (Wait other k holders) → TakesLater (turn_of (past events) (suc n))
+      → newest_event (suc n) events ≡ Some (Wait other k holders) → TakesLater k (turn_of (past events) (suc n))
   waits_later [] each n other k holders newest = cc
   waits_later (event ∷ older) each n other k holders newest =
       waits_by event older n (is_of (suc n) event) refl each.0 other k holders newest (waits_later older each.1 n other k holders)
@@ -71,18 +71,18 @@ call_same : (k j : ℕ) (a b : Call) → Taking k a ≡ Taking j b → a ≡ b
 call_same k j a b same = cc
 
 -- a session that takes a statement at once, or answers one, doesn't wait
-at_once : (turn : Turn) (k : ℕ) → TakesAtOnce k turn → TakesLater turn → ⊥
-at_once turn k once later = once.2 (subst MayWait (call_same later.0 k later.1 once.0 (sym later.2 ∙ once.1)) later.3)
+at_once : (turn : Turn) (k : ℕ) → TakesAtOnce k turn → (j : ℕ) → TakesLater j turn → ⊥
+at_once turn k once j later = once.2 (subst MayWait (call_same j k later.0 once.0 (sym later.1 ∙ once.1)) later.2)
 
-answers_not : (turn : Turn) (k : ℕ) → turn ≡ AnswerOf k → TakesLater turn → ⊥
-answers_not turn k answers later =
-    let same : Taking later.0 later.1 ≡ AnswerOf k = sym later.2 ∙ answers in cc
+answers_not : (turn : Turn) (k : ℕ) → turn ≡ AnswerOf k → (j : ℕ) → TakesLater j turn → ⊥
+answers_not turn k answers j later =
+    let same : Taking j later.0 ≡ AnswerOf k = sym later.1 ∙ answers in cc
 
 module _ (history : History) (each : EachFollows history.shape history.world history.events) (state : LockState) where
-  pub unwaited : (session : ℕ) → 1 ≤ session → (TakesLater (turn_of history session) → ⊥) → wants_waited state session (newest_event session history.events) ≡ None
+  pub unwaited : (session : ℕ) → 1 ≤ session → ((j : ℕ) → TakesLater j (turn_of history session) → ⊥) → wants_waited state session (newest_event session history.events) ≡ None
   unwaited zero first never = absurd (omega (arith, first))
   unwaited (suc n) first never =
-      free_by state (suc n) (newest_event (suc n) history.events) (λ other k holders newest. never (waits_later history.shape history.world history.events each n other k holders newest))
+      free_by state (suc n) (newest_event (suc n) history.events) (λ other k holders newest. never k (waits_later history.shape history.world history.events each n other k holders newest))
 
   -- an event that ends no transaction comes to a session that doesn't wait
   pub plain_unwaited : (session : ℕ) → 1 ≤ session → (event : Event) → IsPlain session event → session_of event ≡ Some session → FollowsAfter history event

@@ -8,7 +8,8 @@ use Rattle.dw_journal.specs.declared.Event.TheVariants.{Wait, Refuse}
 use Rattle.dw_journal.specs.History.{History, newest_event, with_event}
 use Rattle.dw_journal.specs.Blocks.{block_of}
 use Rattle.dw_journal.specs.Turns.{Works, Taking, turn_of, number_due}
-use Rattle.dw_journal.specs.Legal.{IsLockWait, IsNextEvent, blockers_of, cycle_of}
+use Rattle.dw_journal.specs.Follows.{FollowsAfter}
+use Rattle.dw_journal.specs.Legal.{IsLockWait, IsNextEvent, IsWait, blockers_of, cycle_of}
 use Rattle.dw_locks.specs.declared.locks.Asked.{Asked}
 use Rattle.dw_locks.specs.declared.locks.Asked.TheVariants.{Granted, Waits, Deadlock}
 use Rattle.dw_core.specs.Traces.{LeavesNoTrace}
@@ -28,11 +29,14 @@ wait_due history session holders = Wait session (number_due history session) hol
 abbrev pub deadlock_due : History → ℕ → List ℕ → Event
 deadlock_due history session cycle = Refuse session (number_due history session) (refusals.Deadlock cycle)
 
--- the wait has happened, unless it is the session's newest event already
+-- The wait is due, and is one. It has happened, unless it is the session's newest event already, so that it would be
+-- repeated.
 abbrev pub HasWaited : History → ℕ → List ℕ → History → Type 0
 HasWaited before session holders after =
-    ((newest_event session before.events ≡ Some (wait_due before session holders)) × (after ≡ before))
-    ⊎ (IsNextEvent before (wait_due before session holders) × (after ≡ with_event before (wait_due before session holders)))
+    let wait = wait_due before session holders in
+    FollowsAfter before wait × IsWait before session (number_due before session) holders
+    × (((newest_event session before.events ≡ Some wait) × (after ≡ before))
+    ⊎ ((newest_event session before.events ≢ Some wait) × (after ≡ with_event before wait)))
 
 -- What is answered is what the definitions of locks say. Where nobody stands in the way, nothing has happened yet; else
 -- the session waits for those who do, or its transaction is refused, which leaves no trace.

@@ -1,12 +1,12 @@
 -- How an event of a session changes what is kept of it.
-use Rattle.std.specs.Prelude.{◌≡◌, ℕ, Bool, true, false, if◌then◌else◌, [], Option, Some, None}
+use Rattle.std.specs.Prelude.{◌≡◌, ℕ, Bool, true, false, if◌then◌else◌, List, [], Option, Some, None}
 use Rattle.std.specs.List.{slice_set}
 use Rattle.dw_model.specs.declared.statements.Statement.{Statement}
 use Rattle.dw_model.specs.Objects.{reads_of, writes_of, with_objects, IsAscendingObjects}
 use Rattle.dw_journal.specs.declared.BlockState.{BlockState}
 use Rattle.dw_journal.specs.declared.BlockState.TheVariants.{Outside, Within, Aborted}
 use Rattle.dw_journal.specs.declared.Event.{Event}
-use Rattle.dw_journal.specs.declared.Event.TheVariants.{Begin, Pass, Opened, Answer, Commit, Violation, Refuse, Rollback, End}
+use Rattle.dw_journal.specs.declared.Event.TheVariants.{Begin, Pass, Wait, Opened, Answer, Commit, Violation, Refuse, Rollback, End}
 use Rattle.dw_journal.specs.declared.World.{World}
 use Rattle.dw_journal.specs.History.{History, statements_after}
 use Rattle.dw_journal.specs.Blocks.{block_after}
@@ -46,6 +46,11 @@ ends_transaction event = false
 abbrev pub locks_after : Event → ℕ → LockTable → LockTable
 locks_after event session table = if ends_transaction event then slice_set table session free_entry else table
 
+-- the holders that a session waits for, once it has this event; those of a wait are kept before
+abbrev pub waits_after : Event → Option (List ℕ) → Option (List ℕ)
+waits_after (Wait session statement holders) before = before
+waits_after event before = None
+
 -- what is kept of a session once it has this event; what an opened statement takes is kept before
 abbrev pub session_after : World → Event → Session → Session
 session_after world event kept = record {
@@ -53,6 +58,7 @@ session_after world event kept = record {
   stage = stage_after event (block_after world event kept.block);
   block = block_after world event kept.block;
   transaction = if ends_transaction event then None else kept.transaction;
+  waits = waits_after event kept.waits;
 }
 
 -- what a statement takes, if it is there

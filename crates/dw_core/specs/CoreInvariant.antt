@@ -5,6 +5,7 @@ use Rattle.dw_model.specs.declared.statements.Statement.{Statement}
 use Rattle.dw_journal.specs.declared.BlockState.{BlockState}
 use Rattle.dw_journal.specs.declared.BlockState.TheVariants.{Outside, Within, Aborted}
 use Rattle.dw_journal.specs.declared.Event.{Event}
+use Rattle.dw_journal.specs.declared.Event.TheVariants.{Wait}
 use Rattle.dw_journal.specs.declared.Shape.{Shape}
 use Rattle.dw_journal.specs.declared.Taken.{Taken}
 use Rattle.dw_journal.specs.declared.World.{World}
@@ -56,8 +57,13 @@ abbrev pub HasNames : Option KeptTransaction → Type 0
 HasNames None = Unit {0}
 HasNames (Some kept) = kept.named ≡ kept.taken.reads
 
+-- the holders that a session's newest event says it waits for, where that is a wait
+abbrev pub holders_in : Option Event → Option (List ℕ)
+holders_in (Some (Wait session statement holders)) = Some holders
+holders_in event = None
+
 -- What is kept of a session is what its events say: how many statements it has taken, where it stands, what is due by
--- its newest event, and what the statements took that were opened in its transaction.
+-- its newest event, whom it waits for by that, and what the statements took that were opened in its transaction.
 pub record IsKeptBy (shape : Shape) (world : World) (session count : ℕ) (block : BlockState) (newest : Option Event)
     (opened : List ℕ) (transaction : Option Transaction) (kept : Session) : Type 0 where
   pub count_is : count ≡ kept.taken
@@ -67,6 +73,7 @@ pub record IsKeptBy (shape : Shape) (world : World) (session count : ℕ) (block
   pub at_stage : IsAtStage world session kept.stage kept.taken block transaction
   pub taken_is : option_map (taken_over world session opened) (snapshot_in transaction) ≡ taken_in kept.transaction
   pub names : HasNames kept.transaction
+  pub waits_is : holders_in newest ≡ kept.waits
 
 abbrev pub IsKept : History → ℕ → Session → Type 0
 IsKept history session kept =

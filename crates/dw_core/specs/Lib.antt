@@ -7,4 +7,3 @@ pub mod Pruned
 pub mod CoreInvariant
 pub mod Horizons
 pub mod Asking
-pub mod Waits

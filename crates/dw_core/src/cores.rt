@@ -1,19 +1,20 @@
 //! The core: which event may come next of each session, and the calls that append it.
 ghost use Rattle.std.specs.Prelude.{◌≡◌, ◌+◌, ◌*◌, ◌<◌, ◌≤◌, [], ◌∷◌, ℕ, None, Some, vec_len, vec_capacity, OnOk, OnErr, IfOk, IfSome};
+ghost use Rattle.std.specs.Bool.{Decides};
 ghost use Rattle.std.specs.Option.{option_copied};
 ghost use Rattle.dw_journal.specs.declared.Event.TheVariants as event;
 ghost use Rattle.dw_journal.specs.Worlds.{AreShort, IsSession, given_at, session_count};
-ghost use Rattle.dw_journal.specs.History.{events_of, session_of, with_event};
+ghost use Rattle.dw_journal.specs.History.{events_of, newest_event, session_of, with_event};
 ghost use Rattle.dw_journal.specs.Blocks.{block_of};
 ghost use Rattle.dw_journal.specs.Transactions.{commits, taken_of};
 ghost use Rattle.dw_journal.specs.Vacuums.{swept_by};
 ghost use Rattle.dw_journal.specs.Locks.{lock_state, wants_of};
 ghost use Rattle.dw_journal.specs.Turns.{AnswerOf, number_due, turn_of};
-ghost use Rattle.dw_journal.specs.Follows.{FollowsAfter};
+ghost use Rattle.dw_journal.specs.Follows.{EachFollows, FollowsAfter};
 ghost use Rattle.dw_journal.specs.Legal.{IsLegal, IsLockWait, IsNextEvent, blockers_of, certified, cycle_of, high_of, low_of, snapshot_due};
 ghost use Rattle.dw_locks.specs.Holders.{exclusive_holder_by};
 ghost use Rattle.dw_locks.specs.Requests.{answer_by};
-ghost use Rattle.dw_core.specs.Asking.{HasWaited, IsAnswered, IsToAsk};
+ghost use Rattle.dw_core.specs.Asking.{HasWaited, IsAnswered, IsToAsk, wait_due};
 ghost use Rattle.dw_core.specs.Changes.{HasRoomKept, IsPlain};
 ghost use Rattle.dw_core.specs.CoreInvariant.{IsKept};
 ghost use Rattle.dw_core.specs.DueEvents.{commit_due, decision_of, opening_due, route_due};
@@ -25,7 +26,7 @@ ghost use Rattle.dw_core.specs.Traces.{LeavesNoTrace, LeavesUnlessStamped};
 use crate::decisions::{Committed, decide, settle};
 use crate::grants::grant_and_open;
 use crate::sessions::{Session, Stage, given, put};
-use crate::waits::is_newest_wait;
+use crate::waits::are_same;
 use dw_journal::{BlockState, Event, Given, Journal, Route, Shape, Want, World, place_of};
 use dw_locks::{Asked, Locks, wants};
 use dw_model::{Answer, FileMap, Refusal, Word};
@@ -108,6 +109,7 @@ impl Core {
         requires session { IsSession self.now.world session }
         ensures kept { IsKept self.now session result.now }
         ensures short { AreShort self.now.world.scripts }
+        ensures follows { EachFollows self.now.shape self.now.world self.now.events }
         ensures snapshot { IfSome (taken_of self.now session) (λ taken. taken.snapshot ≤ commits self.now.events) }
     {
         &self.sessions[place_of(session)]
@@ -241,6 +243,18 @@ impl Core {
         self.locks.answer(session, wants)
     }
 
+    /// Whether the session's newest event is its wait for just these holders.
+    fn is_waiting(&self, session: u32, holders: &List<u32>) -> bool
+        requires session { IsSession self.now.world session }
+        ensures { Decides result (newest_event session self.now.events
+            ≡ Some (wait_due self.now session holders.now)) }
+    {
+        match &self.keeping(session).waits {
+            Some(waits) => are_same(waits, holders),
+            None => false,
+        }
+    }
+
     /// The session waits for these holders of locks in the way of what it wants. Where it waits for just these by its
     /// newest event, or where memory runs out, nothing happens.
     fn wait(
@@ -257,16 +271,18 @@ impl Core {
         ensures err { OnErr result (self.new ≡ self.old) }
     {
         let statement = self.number_due(session);
-        if is_newest_wait(self.events.as_slice(), session, statement, holders) {
+        if self.is_waiting(session, holders) {
             return Ok(());
         }
-        let holders = holders.copy()?;
+        let named = holders.copy()?;
+        let kept = holders.copy()?;
         make_room(&mut self.events, self.shape.sessions)?;
         let _waits = self.locks.request(session, wants)?;
+        self.sessions[place_of(session)].waits = Some(kept);
         let event = Event::Wait {
             session,
             statement,
-            holders,
+            holders: named,
         };
         put(
             &self.world,

@@ -14,6 +14,7 @@ use crate::transactions::Transaction;
 use dw_journal::{BlockState, Event, Given, World, place_of};
 use dw_locks::Locks;
 use dw_model::{Refusal, Statement, Word};
+use dw_value::List;
 
 /// How far a session has come with the last statement that it took.
 #[derive(Clone, Copy, Debug, PartialEq, Eq)]
@@ -37,22 +38,31 @@ pub(crate) struct Session {
     pub(crate) block: BlockState,
     /// Its open transaction.
     pub(crate) transaction: Option<Transaction>,
+    /// Whom it waits for, where its newest event is a wait.
+    pub(crate) waits: Option<List<u32>>,
 }
 
 impl Session {
     /// A session that has done nothing yet.
     pub(crate) fn fresh() -> Session
-        ensures { result ≡ record { taken = 0; stage = stage.Between; block = blocks.Outside; transaction = None } }
+        ensures { result ≡ record {
+          taken = 0;
+          stage = stage.Between;
+          block = blocks.Outside;
+          transaction = None;
+          waits = None;
+        } }
     {
         Session {
             taken: 0,
             stage: Stage::Between,
             block: BlockState::Outside,
             transaction: None,
+            waits: None,
         }
     }
 
-    /// The session has this event. What an opened statement takes has been kept before.
+    /// The session has this event. What an opened statement takes has been kept before, and so has whom it waits for.
     fn advance(&mut self, world: &World, event: &Event)
         ensures { self.new ≡ session_after world.now event.now self.old }
     {
@@ -61,6 +71,9 @@ impl Session {
         self.stage = stage_after(event, self.block);
         if ends_transaction(event) {
             self.transaction = None;
+        }
+        if !matches!(event, Event::Wait { .. }) {
+            self.waits = None;
         }
     }
 }

@@ -97,8 +97,8 @@ invariant_of-self c =
     let event_is : c.decide-decided.result.1 ≡ event = subst (λ (h : History). c.decide-decided.result.1 ≡ decision_of session (number_due h session) result) (sym c.self.view_is)
     (c.decide-decided.ensures.event ∙ ap (λ (n : ℕ). decision_of session n result) c.number_due-statement.ensures) in
     let changed = set_after (session_after i.world c.decide-decided.result.1) i.sessions.items _ c.place_of.result session _ c.place_of.ensures within c.put.ensures.kept
-    ∙ ap (λ (t : Option Transaction). set i.sessions.items (session - 1) (session_after i.world c.decide-decided.result.1 (record { taken = kept.taken; stage = kept.stage; block = kept.block; transaction = t }))) c.take.ensures.after
-    ∙ ap (λ (e : Event). set i.sessions.items (session - 1) (session_after i.world e (record { taken = kept.taken; stage = kept.stage; block = kept.block; transaction = None }))) event_is
+    ∙ ap (λ (t : Option Transaction). set i.sessions.items (session - 1) (session_after i.world c.decide-decided.result.1 (record { taken = kept.taken; stage = kept.stage; block = kept.block; transaction = t; waits = kept.waits }))) c.take.ensures.after
+    ∙ ap (λ (e : Event). set i.sessions.items (session - 1) (session_after i.world e (record { taken = kept.taken; stage = kept.stage; block = kept.block; transaction = None; waits = kept.waits }))) event_is
     ∙ ap (set i.sessions.items (session - 1)) (decided_alike history session k result kept) in
     let newer = ap reverse (c.put.ensures.items ∙ ap (λ (e : Event). i.events.items ++ e ∷ []) event_is) ∙ newest_first i.events.items event in
     let owes = owes_one history session is kept is_kept k _ _ _ follows in

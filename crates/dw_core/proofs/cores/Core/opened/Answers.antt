@@ -66,8 +66,8 @@ invariant_of-self-in_err-grant_and_open c =
     let made = c.make_room.ensures in
     let kept = c.index_mut-kept.result.now in
     let place = c.place_of.result in
-    let still : set i.sessions.items place (record { taken = kept.taken; stage = kept.stage; block = kept.block; transaction = c.grant_and_open.new.kept }) ≡ i.sessions.items =
-    ap (λ (t : Option Transaction). set i.sessions.items place (record { taken = kept.taken; stage = kept.stage; block = kept.block; transaction = t })) c.in_err-grant_and_open.ensures.err
+    let still : set i.sessions.items place (record { taken = kept.taken; stage = kept.stage; block = kept.block; transaction = c.grant_and_open.new.kept; waits = kept.waits }) ≡ i.sessions.items =
+    ap (λ (t : Option Transaction). set i.sessions.items place (record { taken = kept.taken; stage = kept.stage; block = kept.block; transaction = t; waits = kept.waits })) c.in_err-grant_and_open.ensures.err
     ∙ ap (set i.sessions.items place) c.index_mut-kept.ensures.value ∙ set-get_or i.sessions.items place kept in
     let newer : History = record { shape = i.shape; world = i.world; events = reverse c.make_room.new.events.items } in
     let locks = c.in_err-grant_and_open.ensures.withdrawn (lock_state history) c.self.invariant.locks in
@@ -106,9 +106,9 @@ invariant_of-self-2 c =
     (granted_stands i.locks (lock_state history) core.locks session (is_entry history i.locks core.locks session is (core.unswept session)) k snapshot Main) in
     let opened_is : c.grant_and_open.new.kept ≡ Some (opened_transaction (footprint_of (statement_at i.world session k)) snapshot kept.transaction) =
     c.in_ok-grant_and_open.ensures.kept ∙ ap (λ (g : Option Given). Some (opened_transaction (footprint_of (read_in g)) snapshot kept.transaction)) c.given-given.ensures in
-    let now : Session = session_after i.world event (record { taken = kept.taken; stage = kept.stage; block = kept.block; transaction = c.grant_and_open.new.kept }) in
+    let now : Session = session_after i.world event (record { taken = kept.taken; stage = kept.stage; block = kept.block; transaction = c.grant_and_open.new.kept; waits = kept.waits }) in
     let is_kept : IsKept (with_event history event) session now =
-    subst (λ (t : Option Transaction). IsKept (with_event history event) session (session_after i.world event (record { taken = kept.taken; stage = kept.stage; block = kept.block; transaction = t }))) (sym opened_is)
+    subst (λ (t : Option Transaction). IsKept (with_event history event) session (session_after i.world event (record { taken = kept.taken; stage = kept.stage; block = kept.block; transaction = t; waits = kept.waits }))) (sym opened_is)
     (kept_opened history session kept (core.each session kept is.0 there) k snapshot Main one.statement one.there one.works one.settled) in
     let newer = ap reverse (c.put.ensures.items ∙ ap (λ (events : List Event). events ++ event ∷ []) c.make_room.ensures.items) ∙ newest_first i.events.items event in
     let changed = set_after (session_after i.world event) i.sessions.items _ c.place_of.result session _ c.place_of.ensures within c.put.ensures.kept in

@@ -1,5 +1,5 @@
-use Rattle.std.proofs.Common.{inr, ◌≡◌, ◌≢◌, ◌+◌, ◌-◌, ℕ, List, [], ◌∷◌, ◌++◌, reverse, refl, sym, ap, subst, ◌∙◌, arith}
-use Rattle.std.specs.Prelude.{Some}
+use Rattle.std.proofs.Common.{inl, inr, ◌≡◌, ◌≢◌, ◌+◌, ◌<◌, ℕ, List, [], length, ◌∷◌, ◌++◌, reverse, refl, sym, ap, subst, ◌∙◌, arith}
+use Rattle.std.specs.Prelude.{Option, Some}
 use Rattle.std.proofs.lemmas.Bool.{false≢true}
 use Rattle.std.specs.List.{slice_set}
 use Rattle.dw_journal.specs.declared.Event.{Event}
@@ -14,10 +14,12 @@ use Rattle.dw_locks.proofs.Lasting.{waiting_stands}
 use Rattle.dw_core.specs.Asking.{HasWaited, IsToAsk, wait_due}
 use Rattle.dw_core.specs.Changes.{session_after}
 use Rattle.dw_core.specs.declared.sessions.Session.{Session}
-use Rattle.dw_core.proofs.Asking.{is_wait_due, wait_comes, waiting_left}
-use Rattle.dw_core.proofs.CoreSteps.{agrees_after, at_place, newest_first, place_within, room_made, roomier, still_open}
+use Rattle.dw_core.specs.declared.sessions.Stage.TheVariants as stage
+use Rattle.dw_core.proofs.Asking.{is_lock_wait, is_wait_due, wait_comes, wait_follows, waiting_left}
+use Rattle.dw_core.proofs.CoreSteps.{agrees_after, newest_first, room_made, roomier, set_after, still_open}
 use Rattle.dw_core.proofs.Locking.{is_entry}
-use Rattle.dw_core.proofs.NextEvents.{kept_after_own}
+use Rattle.dw_core.proofs.NextEvents.{kept_waiting}
+use Rattle.dw_core.proofs.KeptSessions.{found}
 use Rattle.dw_core.proofs.cores.Core.wait.Goals as goal
 
 pub invariant_of-self : goal.invariant_of-self
@@ -42,23 +44,26 @@ invariant_of-self-2 c =
     let session = c.args.session in
     let core = c.self.invariant in
     let k = c.number_due-statement.result in
-    let holders = c.in_ok-holders.holders in
+    let holders = c.in_ok-named.named in
     let event = Wait session k holders in
     let is : IsSession i.world session = subst (λ (h : History). IsSession h.world session) (sym c.self.view_is) c.requires.session in
     let to_ask = subst (λ (h : History). IsToAsk h session) (sym c.self.view_is) c.requires.work in
     let k_is = subst (λ (h : History). k ≡ number_due h session) (sym c.self.view_is) c.number_due-statement.ensures in
     let waits = subst (λ (h : History). IsLockWait h session (number_due h session) c.args.holders.now) (sym c.self.view_is) c.requires.waits in
     let wants_is = subst (λ (h : History). c.args.wants.now ≡ wants_of h.world session (number_due h session)) (sym c.self.view_is) c.requires.wants in
-    let other : newest_event session history.events ≢ Some (Wait session k c.args.holders.now) =
-    λ same. false≢true (sym c.if-is_newest_wait.false ∙ c.is_newest_wait.ensures.1 (ap (λ (events : List Event). newest_event session (reverse events)) c.as_slice.ensures.value ∙ same)) in
-    let next : IsNextEvent history event = subst (IsNextEvent history) (sym (is_wait_due history session k holders c.args.holders.now k_is c.in_ok-holders.ensures))
-    (wait_comes history session is to_ask c.args.holders.now waits (subst (λ (n : ℕ). newest_event session history.events ≢ Some (Wait session n c.args.holders.now)) k_is other)) in
-    let here = at_place i.sessions.items (session - 1) (place_within history i.sessions.items i.certifier i.locks _ _ core session is) in
-    let kept = here.0 in
-    let now : Session = session_after i.world event kept in
-    let is_kept = kept_after_own history session kept (core.each session kept is.0 here.1) event refl tt tt in
+    let other : newest_event session history.events ≢ Some (wait_due history session c.args.holders.now) =
+    subst (λ (h : History). newest_event session h.events ≢ Some (wait_due h session c.args.holders.now)) (sym c.self.view_is)
+    (λ same. false≢true (sym c.if-is_waiting.false ∙ c.is_waiting.ensures.1 same)) in
+    let next : IsNextEvent history event = subst (IsNextEvent history) (sym (is_wait_due history session k holders c.args.holders.now k_is c.in_ok-named.ensures))
+    (wait_comes history session is to_ask c.args.holders.now waits other) in
+    let kept = c.index_mut.result.now in
+    let within : c.place_of.result < length i.sessions.items = omega (arith, c.place_of.ensures, core.number, is.0, is.1) in
+    let there = found i.sessions.items c.place_of.result session kept c.place_of.ensures within c.index_mut.ensures.value in
+    let waits_for : Option (List ℕ) = Some c.in_ok-kept.kept in
+    let now : Session = record { taken = kept.taken; stage = stage.Between; block = kept.block; transaction = kept.transaction; waits = waits_for } in
+    let is_kept = kept_waiting history session kept (core.each session kept is.0 there) k holders waits_for (ap Some (c.in_ok-named.ensures ∙ sym c.in_ok-kept.ensures)) in
     let newer = ap reverse (c.put.ensures.items ∙ ap (λ (events : List Event). events ++ event ∷ []) c.make_room.ensures.items) ∙ newest_first i.events.items event in
-    let changed = c.put.ensures.kept kept here.1 in
+    let changed = set_after (session_after i.world event) i.sessions.items _ c.place_of.result session _ c.place_of.ensures within c.put.ensures.kept in
     let room = room_made history i.sessions.items i.certifier i.locks _ _ core session is now _ _ _ changed (c.put.ensures.len ∙ ap (λ n. n + 1) c.make_room.ensures.len)
     (omega (arith, c.in_ok-make_room.ensures.room, c.make_room.ensures.len, c.put.ensures.capacity)) in
     let left = c.put.ensures.locks ∙ c.in_ok-_waits.ensures.table ∙ waiting_left history i.locks core.locks session (number_due history session) c.args.wants.now wants_is c.args.holders.now waits in
@@ -75,19 +80,28 @@ returns-clause-ok c =
     let history : History = record { shape = i.shape; world = i.world; events = reverse i.events.items } in
     let session = c.args.session in
     let k = c.number_due-statement.result in
-    let holders = c.in_ok-holders.holders in
+    let holders = c.in_ok-named.named in
     let event = Wait session k holders in
     let due = wait_due history session c.args.holders.now in
     let is : IsSession i.world session = subst (λ (h : History). IsSession h.world session) (sym c.self.view_is) c.requires.session in
     let to_ask = subst (λ (h : History). IsToAsk h session) (sym c.self.view_is) c.requires.work in
     let k_is = subst (λ (h : History). k ≡ number_due h session) (sym c.self.view_is) c.number_due-statement.ensures in
     let waits = subst (λ (h : History). IsLockWait h session (number_due h session) c.args.holders.now) (sym c.self.view_is) c.requires.waits in
-    let other : newest_event session history.events ≢ Some (Wait session k c.args.holders.now) =
-    λ same. false≢true (sym c.if-is_newest_wait.false ∙ c.is_newest_wait.ensures.1 (ap (λ (events : List Event). newest_event session (reverse events)) c.as_slice.ensures.value ∙ same)) in
-    let next : IsNextEvent history due =
-    wait_comes history session is to_ask c.args.holders.now waits (subst (λ (n : ℕ). newest_event session history.events ≢ Some (Wait session n c.args.holders.now)) k_is other) in
+    let other : newest_event session history.events ≢ Some (wait_due history session c.args.holders.now) =
+    subst (λ (h : History). newest_event session h.events ≢ Some (wait_due h session c.args.holders.now)) (sym c.self.view_is)
+    (λ same. false≢true (sym c.if-is_waiting.false ∙ c.is_waiting.ensures.1 same)) in
     let newer : reverse c.put.new.events.items ≡ event ∷ history.events = ap reverse (c.put.ensures.items ∙ ap (λ (events : List Event). events ++ event ∷ []) c.make_room.ensures.items) ∙ newest_first i.events.items event in
     let all : ◌≡◌ {A = History} (record { shape = i.shape; world = i.world; events = reverse c.put.new.events.items }) (with_event history due) =
     ap (λ (events : List Event). record { shape = i.shape; world = i.world; events = events }) newer
-    ∙ ap (with_event history) (is_wait_due history session k holders c.args.holders.now k_is c.in_ok-holders.ensures) in
-    subst (λ (h : History). HasWaited h session c.args.holders.now (record { shape = i.shape; world = i.world; events = reverse c.put.new.events.items })) c.self.view_is (inr (next, all))
+    ∙ ap (with_event history) (is_wait_due history session k holders c.args.holders.now k_is c.in_ok-named.ensures) in
+    subst (λ (h : History). HasWaited h session c.args.holders.now (record { shape = i.shape; world = i.world; events = reverse c.put.new.events.items })) c.self.view_is
+    (wait_follows history session is to_ask c.args.holders.now, is_lock_wait history session is to_ask c.args.holders.now waits, inr (other, all))
+
+pub returns-then-is_waiting-clause-ok : goal.returns-then-is_waiting-clause-ok
+returns-then-is_waiting-clause-ok c =
+    let now = c.args.self.now in
+    let session = c.args.session in (
+      wait_follows now session c.requires.session c.requires.work c.args.holders.now,
+      is_lock_wait now session c.requires.session c.requires.work c.args.holders.now c.requires.waits,
+      inl (c.is_waiting.ensures.0 c.if-is_waiting.true, refl),
+    )
