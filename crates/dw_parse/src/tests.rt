@@ -173,6 +173,32 @@ fn shown(alloc: Global, text: &str) -> Result<String, AllocError> {
     Ok(line)
 }
 
+const REFUSED: &str = "syntax 0";
+
+fn around(alloc: Global, front: &str, part: &str, back: &str) -> Result<String, AllocError> {
+    let mut text = String::new(alloc);
+    text.push_str(front)?;
+    text.push_str(part)?;
+    text.push_str(back)?;
+    Ok(text)
+}
+
+// Whether a text is the statement that these words say, or is refused, where that is expected.
+fn is_shown(
+    alloc: Global,
+    text: &str,
+    front: &str,
+    expected: &str,
+    back: &str,
+) -> Result<bool, AllocError> {
+    let line = shown(alloc, text)?;
+    if expected == REFUSED {
+        return Ok(line.as_str() == REFUSED);
+    }
+    let wanted = around(alloc, front, expected, back)?;
+    Ok(line.as_str() == wanted.as_str())
+}
+
 #[test]
 fn texts_are_statements_or_refused(rt: HostRuntime) -> Result<(), Fail> {
     for (text, expected) in [
@@ -326,14 +352,9 @@ fn kinds_have_their_spellings_and_limits(rt: HostRuntime) -> Result<(), Fail> {
         ("float", "syntax 0"),
         ("int int", "syntax 0"),
     ] {
-        let text = format!(in rt.alloc(); "create table t (x {part})")?;
-        let line = shown(rt.alloc(), text.as_str())?;
-        let wanted = if expected == "syntax 0" {
-            format!(in rt.alloc(); "syntax 0")?
-        } else {
-            format!(in rt.alloc(); "create t: x {expected}")?
-        };
-        assert_eq!(rt; line.as_str(), wanted.as_str(), "{part}");
+        let text = around(rt.alloc(), "create table t (x ", part, ")")?;
+        let is_right = is_shown(rt.alloc(), text.as_str(), "create t: x ", expected, "")?;
+        assert!(rt; is_right, "{part}");
     }
     Ok(())
 }
@@ -413,14 +434,9 @@ fn options_and_constraints_make_columns(rt: HostRuntime) -> Result<(), Fail> {
         ("x int, foreign (x) references u", "syntax 0"),
         ("x int, key (x)", "syntax 0"),
     ] {
-        let text = format!(in rt.alloc(); "create table t ({part})")?;
-        let line = shown(rt.alloc(), text.as_str())?;
-        let wanted = if expected == "syntax 0" {
-            format!(in rt.alloc(); "syntax 0")?
-        } else {
-            format!(in rt.alloc(); "create t: {expected}")?
-        };
-        assert_eq!(rt; line.as_str(), wanted.as_str(), "{part}");
+        let text = around(rt.alloc(), "create table t (", part, ")")?;
+        let is_right = is_shown(rt.alloc(), text.as_str(), "create t: ", expected, "")?;
+        assert!(rt; is_right, "{part}");
     }
     Ok(())
 }
@@ -467,14 +483,9 @@ fn attributes_make_tables(rt: HostRuntime) -> Result<(), Fail> {
         ("backup true", "syntax 0"),
         (", sortkey (x)", "syntax 0"),
     ] {
-        let text = format!(in rt.alloc(); "create table t (x int) {part}")?;
-        let line = shown(rt.alloc(), text.as_str())?;
-        let wanted = if expected == "syntax 0" {
-            format!(in rt.alloc(); "syntax 0")?
-        } else {
-            format!(in rt.alloc(); "create t: x int {expected}")?
-        };
-        assert_eq!(rt; line.as_str(), wanted.as_str(), "{part}");
+        let text = around(rt.alloc(), "create table t (x int) ", part, "")?;
+        let is_right = is_shown(rt.alloc(), text.as_str(), "create t: x int ", expected, "")?;
+        assert!(rt; is_right, "{part}");
     }
     Ok(())
 }
@@ -520,22 +531,18 @@ fn literals_are_written_in_tuples_and_tests(rt: HostRuntime) -> Result<(), Fail>
         ("true false", "syntax 0"),
         ("1 2", "syntax 0"),
     ] {
-        let text = format!(in rt.alloc(); "insert into t values ({literal})")?;
-        let line = shown(rt.alloc(), text.as_str())?;
-        let wanted = if expected == "syntax 0" {
-            format!(in rt.alloc(); "syntax 0")?
-        } else {
-            format!(in rt.alloc(); "insert t: ( {expected} ) ")?
-        };
-        assert_eq!(rt; line.as_str(), wanted.as_str(), "{literal}");
-        let text = format!(in rt.alloc(); "select x from t where x = {literal}")?;
-        let line = shown(rt.alloc(), text.as_str())?;
-        let wanted = if expected == "syntax 0" {
-            format!(in rt.alloc(); "syntax 0")?
-        } else {
-            format!(in rt.alloc(); "select t: x where x = {expected} ")?
-        };
-        assert_eq!(rt; line.as_str(), wanted.as_str(), "{literal}");
+        let text = around(rt.alloc(), "insert into t values (", literal, ")")?;
+        let is_right = is_shown(rt.alloc(), text.as_str(), "insert t: ( ", expected, " ) ")?;
+        assert!(rt; is_right, "{literal}");
+        let text = around(rt.alloc(), "select x from t where x = ", literal, "")?;
+        let is_right = is_shown(
+            rt.alloc(),
+            text.as_str(),
+            "select t: x where x = ",
+            expected,
+            " ",
+        )?;
+        assert!(rt; is_right, "{literal}");
     }
     Ok(())
 }
