@@ -50,10 +50,10 @@ impl ColumnSpec {
     }
 }
 
-/// What was written after DISTSTYLE, but for AUTO, which says nothing.
+/// What was written after DISTSTYLE.
 #[derive(Debug, Clone, Copy, PartialEq, Eq, Drop)]
 pub enum StyleWord {
-    /// EVEN.
+    /// EVEN, or AUTO, which is taken as EVEN.
     Even,
     /// KEY.
     Key,
@@ -68,7 +68,7 @@ pub struct TableSpec {
     pub name: Text,
     /// The columns, in the order in which they were written.
     pub columns: List<ColumnSpec>,
-    /// The distribution style, if one was written. Of two the last counts, and AUTO counts as none.
+    /// The distribution style, if one was written. Of two the last counts.
     pub style: Option<StyleWord>,
     /// The column of each DISTKEY that was written.
     pub dist_keys: List<Text>,
