@@ -26,12 +26,12 @@ use Rattle.dw_print.specs.declared.read_events.Head.TheVariants as heads
 use Rattle.dw_print.specs.Fields.{escape, field, numbers_text, refusal_text}
 use Rattle.dw_print.specs.Answers.{word_text}
 use Rattle.dw_print.specs.Events.{object_text, route_text}
-use Rattle.dw_print.specs.Readable.{IsLong, IsPassWord, IsReadableEvent, IsReadableObject, IsReadableRefusal, IsReadableRoute, IsShort}
+use Rattle.dw_print.specs.Readable.{IsLong, IsPassWord, IsPlainWord, IsReadableEvent, IsReadableObject, IsReadableRefusal, IsReadableRoute, IsShort}
 use Rattle.dw_print.specs.Reading.{Reading, ◌>>=◌, both, field_at, meaning, number_at, otherwise, statement_at, word_at}
 use Rattle.dw_print.specs.EventReading.{answer_after, answer_at, answer_word_at, begin_at, closed_text_at, commit_at, end_at, head_after, head_at, kind_at, object_at, object_of, open_at, pass_at, pass_word_at, rarer_kind_at, rarer_reason_at, reason_at, refresh_at, refusal_after, refusal_at, refuse_at, rollback_at, route_at, step_at, vacuum_after, vacuum_at, violation_at, wait_at, without_parenthesis}
 use Rattle.dw_print.proofs.Texts.{parenthesis_goes}
 use Rattle.dw_print.proofs.TakenParts.{place_text}
-use Rattle.dw_print.proofs.TakenEvents.{IsAnswerWord, answer_word_text, create_line, form_text, head_text, insert_line, kind_of, kind_text, one_more, reason_of, reason_text, refused_is, refused_text, refusal_line, rest_text, same_object_text, slice_more, step_text, tail_text, three_more, two_more}
+use Rattle.dw_print.proofs.TakenEvents.{IsAnswerWord, answer_word_text, create_line, drop_line, form_text, head_text, insert_line, kind_of, kind_text, one_more, reason_of, reason_text, refused_is, refused_text, refusal_line, rest_text, same_object_text, slice_more, step_text, tail_text, three_more, two_more}
 use Rattle.dw_print.proofs.Again.{Again, Anything, again_after, again_before, again_both, meant_again, next_is}
 use Rattle.dw_print.proofs.AgainParts.{IsAfterField, IsAfterItems, IsAfterNumber, again_long, again_number, again_sessions, again_short, again_statement, again_text, field_again}
 
@@ -58,6 +58,7 @@ reason_again reasons.Unknown rest = refl
 reason_again reasons.Exists rest = refl
 reason_again reasons.Clash rest = refl
 reason_again reasons.Range rest = refl
+reason_again reasons.NullIn rest = refl
 reason_again reasons.Deadlock rest = refl
 reason_again reasons.Aborted rest = refl
 reason_again reasons.InBlock rest = refl
@@ -78,6 +79,7 @@ answer_word_again words.Begin rest none = absurd none
 answer_word_again words.Commit rest none = absurd none
 answer_word_again words.Rollback rest none = absurd none
 answer_word_again words.CreateTable rest fits = (refl, refl)
+answer_word_again words.DropTable rest fits = (refl, refl)
 answer_word_again words.Insert rest fits = (refl, refl)
 answer_word_again words.Select rest fits = (refl, refl)
 
@@ -87,6 +89,7 @@ pass_word_again words.Begin rest fits = refl
 pass_word_again words.Commit rest fits = refl
 pass_word_again words.Rollback rest fits = refl
 pass_word_again words.CreateTable rest none = absurd none
+pass_word_again words.DropTable rest none = absurd none
 pass_word_again words.Insert rest none = absurd none
 pass_word_again words.Select rest none = absurd none
 
@@ -146,6 +149,7 @@ rest_again (refusals.Unknown name) rest fits ends = meant_again refusals.Unknown
 rest_again (refusals.Exists name) rest fits ends = meant_again refusals.Exists again_text name rest (field name) fits ends.1 refl
 rest_again refusals.Clash rest fits ends = refl
 rest_again refusals.Range rest fits ends = refl
+rest_again (refusals.NullIn column) rest fits ends = meant_again refusals.NullIn again_text column rest (field column) fits ends.1 refl
 rest_again (refusals.Deadlock cycle) rest fits ends = meant_again refusals.Deadlock again_sessions cycle rest (numbers_text cycle) fits ends.0 refl
 rest_again refusals.Aborted rest fits ends = refl
 rest_again refusals.InBlock rest fits ends = refl
@@ -292,10 +296,18 @@ answer_again word s q head tail rest fits a b same later =
 abbrev IsHeadRead : Kind → Head → Type 0
 IsHeadRead kind head = (rest : List ℕ) → head_after kind (head_text head ++ rest) ≡ Some (head, rest)
 
-plain_again : (s q : ℕ) → IsShort s → IsShort q → IsHeadRead kinds.Answer (heads.Whole (events.Answer s q (answers.Plain words.CreateTable)))
-plain_again s q a b rest =
+plain_again : (word : Word) (s q : ℕ) → IsPlainWord word → IsShort s → IsShort q → IsHeadRead kinds.Answer (heads.Whole (events.Answer s q (answers.Plain word)))
+plain_again words.Begin s q none a b rest = absurd none
+plain_again words.Commit s q none a b rest = absurd none
+plain_again words.Rollback s q none a b rest = absurd none
+plain_again words.Insert s q none a b rest = absurd none
+plain_again words.Select s q none a b rest = absurd none
+plain_again words.CreateTable s q fits a b rest =
     answer_again words.CreateTable s q (heads.Whole (events.Answer s q (answers.Plain words.CreateTable))) (codes "\n") rest tt a b
     (create_line (place_text (s, q))) refl
+plain_again words.DropTable s q fits a b rest =
+    answer_again words.DropTable s q (heads.Whole (events.Answer s q (answers.Plain words.DropTable))) (codes "\n") rest tt a b
+    (drop_line (place_text (s, q))) refl
 
 count_again : (s q count : ℕ) → IsShort s → IsShort q → IsLong count
     → IsHeadRead kinds.Answer (heads.Whole (events.Answer s q (answers.Count words.Insert count)))
@@ -327,9 +339,7 @@ first_line_again (events.Pass s q word) fits rest = whole_again pass_at (events.
 first_line_again (events.Wait s q holders) fits rest = whole_again wait_at (events.Wait s q holders) (wait_again s q holders) rest fits
 first_line_again (events.Opened s q snapshot route) fits rest =
     whole_again open_at (events.Opened s q snapshot route) (open_again s q snapshot route) rest fits
-first_line_again (events.Answer s q (answers.Plain word)) fits rest =
-    subst (λ (w : Word). answer_at (head_text (heads.Whole (events.Answer s q (answers.Plain w))) ++ rest) ≡ Some (heads.Whole (events.Answer s q (answers.Plain w)), rest))
-    (sym fits.2) (plain_again s q fits.0 fits.1 rest)
+first_line_again (events.Answer s q (answers.Plain word)) fits rest = plain_again word s q fits.2 fits.0 fits.1 rest
 first_line_again (events.Answer s q (answers.Count word count)) fits rest =
     subst (λ (w : Word). answer_at (head_text (heads.Whole (events.Answer s q (answers.Count w count))) ++ rest) ≡ Some (heads.Whole (events.Answer s q (answers.Count w count)), rest))
     (sym fits.2.0) (count_again s q count fits.0 fits.1 fits.2.1 rest)

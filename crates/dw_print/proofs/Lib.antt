@@ -1,4 +1,5 @@
 pub mod Lines
+pub mod RowValues
 pub mod ReadBack
 pub mod Labels
 pub mod Numbers

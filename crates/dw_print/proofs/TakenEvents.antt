@@ -299,6 +299,7 @@ reason_text reasons.Unknown = codes "2 unknown "
 reason_text reasons.Exists = codes "3 exists "
 reason_text reasons.Clash = codes "4 clash"
 reason_text reasons.Range = codes "5 range"
+reason_text reasons.NullIn = codes "7 null "
 reason_text reasons.Deadlock = codes "10 deadlock"
 reason_text reasons.Aborted = codes "11 aborted"
 reason_text reasons.InBlock = codes "12 block"
@@ -326,7 +327,8 @@ takes_reason =
     (takes_otherwise (takes_word (codes "3 exists ") reasons.Exists reason_text IsAny refl tt)
     (takes_otherwise (takes_word (codes "4 clash") reasons.Clash reason_text IsAny refl tt)
     (takes_otherwise (takes_word (codes "5 range") reasons.Range reason_text IsAny refl tt)
-    (takes_otherwise (takes_word (codes "10 deadlock") reasons.Deadlock reason_text IsAny refl tt) takes_rarer_reason)))))
+    (takes_otherwise (takes_word (codes "7 null ") reasons.NullIn reason_text IsAny refl tt)
+    (takes_otherwise (takes_word (codes "10 deadlock") reasons.Deadlock reason_text IsAny refl tt) takes_rarer_reason))))))
 
 -- a refusal's number and text
 abbrev pub refused_text : Refusal → List ℕ
@@ -337,6 +339,7 @@ abbrev pub rest_text : Refusal → List ℕ
 rest_text (refusals.Syntax place) = decimal place
 rest_text (refusals.Unknown name) = field name
 rest_text (refusals.Exists name) = field name
+rest_text (refusals.NullIn column) = field column
 rest_text (refusals.Deadlock cycle) = numbers_text cycle
 rest_text (refusals.Vacuuming session) = decimal session
 rest_text (refusals.Limit count) = decimal count
@@ -348,6 +351,7 @@ reason_of (refusals.Unknown name) = reasons.Unknown
 reason_of (refusals.Exists name) = reasons.Exists
 reason_of refusals.Clash = reasons.Clash
 reason_of refusals.Range = reasons.Range
+reason_of (refusals.NullIn column) = reasons.NullIn
 reason_of (refusals.Deadlock cycle) = reasons.Deadlock
 reason_of refusals.Aborted = reasons.Aborted
 reason_of refusals.InBlock = reasons.InBlock
@@ -362,6 +366,7 @@ refused_is (refusals.Unknown name) = refl
 refused_is (refusals.Exists name) = refl
 refused_is refusals.Clash = refl
 refused_is refusals.Range = refl
+refused_is (refusals.NullIn column) = refl
 refused_is (refusals.Deadlock cycle) = refl
 refused_is refusals.Aborted = refl
 refused_is refusals.InBlock = refl
@@ -383,6 +388,7 @@ takes_refusal_after reasons.Unknown = takes_meaning refusals.Unknown rest_text (
 takes_refusal_after reasons.Exists = takes_meaning refusals.Exists rest_text (IsFor reasons.Exists) (λ x. refl) (λ x fits. (fits, refl)) takes_text
 takes_refusal_after reasons.Clash = takes_nothing refusals.Clash refl tt
 takes_refusal_after reasons.Range = takes_nothing refusals.Range refl tt
+takes_refusal_after reasons.NullIn = takes_meaning refusals.NullIn rest_text (IsFor reasons.NullIn) (λ x. refl) (λ x fits. (fits, refl)) takes_text
 takes_refusal_after reasons.Deadlock = takes_meaning refusals.Deadlock rest_text (IsFor reasons.Deadlock) (λ x. refl) (λ x fits. (fits, refl)) takes_sessions
 takes_refusal_after reasons.Aborted = takes_nothing refusals.Aborted refl tt
 takes_refusal_after reasons.InBlock = takes_nothing refusals.InBlock refl tt
@@ -426,12 +432,14 @@ IsHead kind (heads.WithRows session statement count) = (IsShort session × IsSho
 -- the words that an answer begins with
 abbrev pub answer_word_text : Word → List ℕ
 answer_word_text words.CreateTable = codes " CREATE TABLE"
+answer_word_text words.DropTable = codes " DROP TABLE"
 answer_word_text words.Insert = codes " INSERT "
 answer_word_text words.Select = codes " SELECT "
 answer_word_text word = []
 
 abbrev pub IsAnswerWord : Word → Type 0
 IsAnswerWord words.CreateTable = Unit {0}
+IsAnswerWord words.DropTable = Unit {0}
 IsAnswerWord words.Insert = Unit {0}
 IsAnswerWord words.Select = Unit {0}
 IsAnswerWord word = ⊥
@@ -440,8 +448,9 @@ takes_answer_word : Takes answer_word_text IsAnswerWord answer_word_at
 unfolding answer_word_at
 takes_answer_word =
     takes_otherwise (takes_word (codes " CREATE TABLE") words.CreateTable answer_word_text IsAnswerWord refl tt)
+    (takes_otherwise (takes_word (codes " DROP TABLE") words.DropTable answer_word_text IsAnswerWord refl tt)
     (takes_otherwise (takes_word (codes " INSERT ") words.Insert answer_word_text IsAnswerWord refl tt)
-    (takes_word (codes " SELECT ") words.Select answer_word_text IsAnswerWord refl tt))
+    (takes_word (codes " SELECT ") words.Select answer_word_text IsAnswerWord refl tt)))
 
 -- the head that was read after a place and a label
 after_words : (place label bytes more rest tail : List ℕ) (read head : Head) → ◌≡◌ {A = Option (Head × List ℕ)} (Some (read, more)) (Some (head, rest))
@@ -457,6 +466,9 @@ insert_line p n c = simp append_assoc
 pub create_line : (p : List ℕ) → p ++ codes " " ++ (codes "CREATE TABLE" ++ codes "\n") ≡ p ++ (codes " CREATE TABLE" ++ codes "\n")
 create_line p = simp append_assoc
 
+pub drop_line : (p : List ℕ) → p ++ codes " " ++ (codes "DROP TABLE" ++ codes "\n") ≡ p ++ (codes " DROP TABLE" ++ codes "\n")
+drop_line p = simp append_assoc
+
 abbrev AnswerTaken : Word → ℕ → ℕ → Head → List ℕ → List ℕ → Type 0
 AnswerTaken word session statement head bytes rest =
     (place_text (session, statement) ++ (answer_word_text word ++ bytes) ≡ head_text head ++ rest) × IsHead kinds.Answer head
@@ -470,7 +482,12 @@ answer_taken words.CreateTable session statement fits a b bytes rest head is =
     let made : Head = heads.Whole (events.Answer session statement (answers.Plain words.CreateTable)) in
     let x = bind_some (after_label (codes "\n") bytes) (λ more. Some (made, more)) (head, rest) is in
     after_words (place_text (session, statement)) (codes " CREATE TABLE") bytes x.0 rest (codes "\n") made head x.2
-    (create_line (place_text (session, statement))) (label_is_taken (codes "\n") bytes x.0 x.1) ((a, b, refl), refl)
+    (create_line (place_text (session, statement))) (label_is_taken (codes "\n") bytes x.0 x.1) ((a, b, tt), refl)
+answer_taken words.DropTable session statement fits a b bytes rest head is =
+    let made : Head = heads.Whole (events.Answer session statement (answers.Plain words.DropTable)) in
+    let x = bind_some (after_label (codes "\n") bytes) (λ more. Some (made, more)) (head, rest) is in
+    after_words (place_text (session, statement)) (codes " DROP TABLE") bytes x.0 rest (codes "\n") made head x.2
+    (drop_line (place_text (session, statement))) (label_is_taken (codes "\n") bytes x.0 x.1) ((a, b, tt), refl)
 answer_taken words.Insert session statement fits a b bytes rest head is =
     let x = bind_some (before long_number (codes "\n") bytes) (λ y. Some (heads.Whole (events.Answer session statement (answers.Count words.Insert y.0)), y.1)) (head, rest) is in
     let here = (takes_before (codes "\n") takes_long).whole bytes x.0.1 x.0.0 x.1 in

@@ -86,7 +86,8 @@ reason_at =
     (otherwise (word_at (codes "3 exists ") reasons.Exists)
     (otherwise (word_at (codes "4 clash") reasons.Clash)
     (otherwise (word_at (codes "5 range") reasons.Range)
-    (otherwise (word_at (codes "10 deadlock") reasons.Deadlock) rarer_reason_at)))))
+    (otherwise (word_at (codes "7 null ") reasons.NullIn)
+    (otherwise (word_at (codes "10 deadlock") reasons.Deadlock) rarer_reason_at))))))
 
 -- nothing more
 abbrev pub nothing : {A : Type 0} → A → Reading A
@@ -99,6 +100,7 @@ refusal_after reasons.Unknown = meaning refusals.Unknown text_at
 refusal_after reasons.Exists = meaning refusals.Exists text_at
 refusal_after reasons.Clash = nothing refusals.Clash
 refusal_after reasons.Range = nothing refusals.Range
+refusal_after reasons.NullIn = meaning refusals.NullIn text_at
 refusal_after reasons.Deadlock = meaning refusals.Deadlock sessions_at
 refusal_after reasons.Aborted = nothing refusals.Aborted
 refusal_after reasons.InBlock = nothing refusals.InBlock
@@ -167,7 +169,8 @@ vacuum_at bytes = both statement_at step_at bytes >>= λ x. vacuum_after x.0.1 x
 unfoldable pub answer_word_at : Reading Word
 answer_word_at =
     otherwise (word_at (codes " CREATE TABLE") words.CreateTable)
-    (otherwise (word_at (codes " INSERT ") words.Insert) (word_at (codes " SELECT ") words.Select))
+    (otherwise (word_at (codes " DROP TABLE") words.DropTable)
+    (otherwise (word_at (codes " INSERT ") words.Insert) (word_at (codes " SELECT ") words.Select)))
 
 abbrev pub answer_after : Word → ℕ → ℕ → Reading Head
 answer_after words.Insert session statement =

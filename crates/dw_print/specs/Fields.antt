@@ -1,12 +1,9 @@
--- How names, values and refusals are printed. The forms are this project's own.
+-- How names, fields and refusals are printed. The forms are this project's own.
 use Rattle.std.specs.Prelude.{ℕ, Bool, false, true, ◌==◌, if◌then◌else◌, List, [], ◌∷◌, ◌++◌, flat_map, codes, decimal}
-use Rattle.dw_value.specs.declared.kinds.Kind.TheVariants.{Big}
-use Rattle.dw_value.specs.declared.values.Value.{Value}
 use Rattle.dw_value.specs.declared.values.Field.{Field}
 use Rattle.dw_value.specs.declared.values.Field.TheVariants.{Null, Shown}
-use Rattle.dw_value.specs.Printed.{shown}
 use Rattle.dw_model.specs.declared.refusals.Refusal.{Refusal}
-use Rattle.dw_model.specs.declared.refusals.Refusal.TheVariants.{Syntax, Unknown, Exists, Clash, Range, Deadlock, Aborted, InBlock, Vacuuming, Limit, Memory}
+use Rattle.dw_model.specs.declared.refusals.Refusal.TheVariants.{Syntax, Unknown, Exists, Clash, Range, NullIn, Deadlock, Aborted, InBlock, Vacuuming, Limit, Memory}
 
 -- A byte of a field. Four are printed as two: a backslash (92), a bar (124), a line feed (10), a carriage return (13).
 abbrev pub escape : ℕ → List ℕ
@@ -49,6 +46,7 @@ refusal_text (Unknown name) = codes "unknown " ++ field name
 refusal_text (Exists name) = codes "exists " ++ field name
 refusal_text Clash = codes "clash"
 refusal_text Range = codes "range"
+refusal_text (NullIn column) = codes "null " ++ field column
 refusal_text (Deadlock cycle) = codes "deadlock" ++ numbers_text cycle
 refusal_text Aborted = codes "aborted"
 refusal_text InBlock = codes "block"
@@ -56,14 +54,10 @@ refusal_text (Vacuuming session) = codes "vacuum " ++ decimal session
 refusal_text (Limit count) = codes "limit rows " ++ decimal count
 refusal_text Memory = codes "memory"
 
--- a field of an answer: `\N` where there is no value, which no text is printed as
+-- a field of a row: `\N` where there is no value, which no text is printed as
 abbrev pub shown_field : Field → List ℕ
 shown_field Null = codes "\\N"
 shown_field (Shown text) = field text
-
--- a value of a table's row; numbers are whole so far
-abbrev pub value_field : Value → List ℕ
-value_field value = shown_field (shown Big value)
 
 -- a bar, and what is printed of an item
 abbrev pub after_bar : {A : Type 0} → (A → List ℕ) → A → List ℕ

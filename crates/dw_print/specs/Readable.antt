@@ -53,8 +53,14 @@ IsPassWord words.Commit = Unit {0}
 IsPassWord words.Rollback = Unit {0}
 IsPassWord word = ⊥
 
+-- the words of statements whose answer says no more than that they were carried out
+abbrev pub IsPlainWord : Word → Type 0
+IsPlainWord words.CreateTable = Unit {0}
+IsPlainWord words.DropTable = Unit {0}
+IsPlainWord word = ⊥
+
 abbrev pub IsReadableAnswer : Answer → Type 0
-IsReadableAnswer (answers.Plain word) = word ≡ words.CreateTable
+IsReadableAnswer (answers.Plain word) = IsPlainWord word
 IsReadableAnswer (answers.Count word count) = (word ≡ words.Insert) × IsLong count
 IsReadableAnswer (answers.Rows word names rows) =
     (word ≡ words.Select) × IsLong (length rows) × AreReadable IsUtf8 names × AllByRecursion (AreReadable IsReadableField) rows
@@ -71,6 +77,7 @@ abbrev pub IsReadableRefusal : Refusal → Type 0
 IsReadableRefusal (refusals.Syntax place) = IsLong place
 IsReadableRefusal (refusals.Unknown name) = IsUtf8 name
 IsReadableRefusal (refusals.Exists name) = IsUtf8 name
+IsReadableRefusal (refusals.NullIn column) = IsUtf8 column
 IsReadableRefusal (refusals.Deadlock cycle) = AllByRecursion IsShort cycle
 IsReadableRefusal (refusals.Vacuuming session) = IsShort session
 IsReadableRefusal (refusals.Limit count) = IsLong count

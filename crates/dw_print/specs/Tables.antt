@@ -13,7 +13,8 @@ use Rattle.dw_print.specs.Rows.{row_line}
 -- a table: its name, how many rows it has, and the rows, which stand in ascending order
 abbrev pub table_lines : List ℕ → Table → List ℕ
 table_lines name table =
-    codes "table " ++ field name ++ codes " rows " ++ decimal (length table.rows) ++ codes "\n" ++ flat_map row_line table.rows
+    codes "table " ++ field name ++ codes " rows " ++ decimal (length table.rows) ++ codes "\n"
+    ++ flat_map (row_line table.def.columns) table.rows
 
 -- a table with its name
 abbrev pub named_lines : List ℕ × Table → List ℕ

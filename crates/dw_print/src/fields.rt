@@ -1,6 +1,7 @@
 //! The parts of a line: texts, numbers, names, values and refusals, each written after what is there already.
 ghost use Rattle.std.specs.Prelude.{◌≡◌, ◌++◌, OnOk};
-ghost use Rattle.dw_print.specs.Fields.{escape, field, numbers_text, refusal_text, shown_field, value_field};
+ghost use Rattle.dw_value.specs.Printed.{shown};
+ghost use Rattle.dw_print.specs.Fields.{escape, field, numbers_text, refusal_text, shown_field};
 
 use dw_model::Refusal;
 use dw_value::{Field, Kind, Value, show};
@@ -70,11 +71,16 @@ pub fn write_shown(out: &mut Vec<u8>, label: &str, shown: &Field) -> Result<(), 
     }
 }
 
-/// Writes `label` as it is, and then a value of a row.
-pub fn write_value(out: &mut Vec<u8>, label: &str, value: &Value) -> Result<(), AllocError>
-    ensures { OnOk result (out.new.items ≡ out.old.items ++ label.now ++ value_field value.now) }
+/// Writes `label` as it is, and then a value of a column of this kind.
+pub fn write_value(
+    out: &mut Vec<u8>,
+    label: &str,
+    kind: Kind,
+    value: &Value,
+) -> Result<(), AllocError>
+    ensures { OnOk result (out.new.items ≡ out.old.items ++ label.now ++ shown_field (shown kind value.now)) }
 {
-    let shown = show(*out.allocator(), value, Kind::Big)?;
+    let shown = show(*out.allocator(), value, kind)?;
     write_shown(out, label, &shown)
 }
 
@@ -88,6 +94,7 @@ pub fn write_refusal(out: &mut Vec<u8>, refusal: &Refusal) -> Result<(), AllocEr
         Refusal::Exists { name } => write_field(out, "exists ", name.as_bytes()),
         Refusal::Clash => write_text(out, "clash"),
         Refusal::Range => write_text(out, "range"),
+        Refusal::NullIn { column } => write_field(out, "null ", column.as_bytes()),
         Refusal::Deadlock { cycle } => {
             write_text(out, "deadlock")?;
             write_sessions(out, cycle.as_slice())

@@ -20,25 +20,40 @@ use std::alloc::Global;
 /// What stands second in a line: the kind of its event.
 #[derive(Clone, Copy, Debug)]
 pub enum Kind {
+    /// `begin`: a block begins.
     Begin,
+    /// `pass`: a statement has nothing to do.
     Pass,
+    /// `wait`: a statement waits for sessions.
     Wait,
+    /// `open`: a statement is opened.
     Open,
+    /// `answer`: a statement is answered.
     Answer,
+    /// `commit`: a transaction is committed.
     Commit,
+    /// `violation`: a transaction can't be committed.
     Violation,
+    /// `refuse`: a statement is refused.
     Refuse,
+    /// `rollback`: a block ends without a trace.
     Rollback,
+    /// `vacuum`: a vacuum begins, has rebuilt a slice, or ends.
     Vacuum,
+    /// `refresh`: a cluster is refreshed.
     Refresh,
+    /// `end`: a session's script is at its end.
     End,
 }
 
 /// What a line of a vacuum says.
 #[derive(Clone, Copy, Debug)]
 pub enum Step {
+    /// `begin`: it begins with this table.
     Begin,
+    /// `slice`: a slice is rebuilt.
     Slice,
+    /// `end`: all slices are rebuilt.
     End,
 }
 
@@ -374,6 +389,9 @@ fn read_answer_word(bytes: &[u8]) -> Result<(Word, &[u8]), LineFault>
 {
     if let Some(rest) = after_label(bytes, " CREATE TABLE") {
         return Ok((Word::CreateTable, rest));
+    }
+    if let Some(rest) = after_label(bytes, " DROP TABLE") {
+        return Ok((Word::DropTable, rest));
     }
     if let Some(rest) = after_label(bytes, " INSERT ") {
         return Ok((Word::Insert, rest));

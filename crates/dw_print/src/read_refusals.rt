@@ -14,16 +14,29 @@ use std::alloc::Global;
 /// Why a statement is refused, as its number and the first word of its text say it.
 #[derive(Clone, Copy, Debug)]
 pub enum Reason {
+    /// `1 syntax`, before a place.
     Syntax,
+    /// `2 unknown`, before a name.
     Unknown,
+    /// `3 exists`, before a name.
     Exists,
+    /// `4 clash`.
     Clash,
+    /// `5 range`.
     Range,
+    /// `7 null`, before a column's name.
+    NullIn,
+    /// `10 deadlock`, before the sessions of a cycle.
     Deadlock,
+    /// `11 aborted`.
     Aborted,
+    /// `12 block`.
     InBlock,
+    /// `13 vacuum`, before a session.
     Vacuuming,
+    /// `14 limit rows`, before a number of rows.
     Limit,
+    /// `16 memory`.
     Memory,
 }
 
@@ -46,6 +59,9 @@ fn read_reason(bytes: &[u8]) -> Result<(Reason, &[u8]), LineFault>
     }
     if let Some(rest) = after_label(bytes, "5 range") {
         return Ok((Reason::Range, rest));
+    }
+    if let Some(rest) = after_label(bytes, "7 null ") {
+        return Ok((Reason::NullIn, rest));
     }
     if let Some(rest) = after_label(bytes, "10 deadlock") {
         return Ok((Reason::Deadlock, rest));
@@ -97,6 +113,10 @@ fn read_refusal_after(
         }
         Reason::Clash => Ok((Refusal::Clash, bytes)),
         Reason::Range => Ok((Refusal::Range, bytes)),
+        Reason::NullIn => {
+            let (column, rest) = read_text(alloc, bytes)?;
+            Ok((Refusal::NullIn { column }, rest))
+        }
         Reason::Deadlock => {
             let (cycle, rest) = read_sessions(alloc, bytes)?;
             Ok((Refusal::Deadlock { cycle }, rest))

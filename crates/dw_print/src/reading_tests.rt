@@ -15,34 +15,36 @@ const LINES: &str = "1 begin 2 1\n\
     6 open 2 3 snapshot 18446744073709551615 main\n\
     7 open 2 3 snapshot 0 cluster 9\n\
     8 answer 2 3 CREATE TABLE\n\
-    9 answer 2 3 INSERT 0\n\
-    10 answer 2 3 SELECT 3\n\
+    9 answer 2 3 DROP TABLE\n\
+    10 answer 2 3 INSERT 0\n\
+    11 answer 2 3 SELECT 3\n\
     = x|a\\|b\n\
     - 1|\\N\n\
     - |a\\\\N\\n\\r\n\
     - größe\n\
-    11 answer 4294967295 0 SELECT 0\n\
+    12 answer 4294967295 0 SELECT 0\n\
     = \n\
-    12 commit 1 6 stamp 3 low 3 high 2\n\
-    13 violation 2 4 low 3 high 3 rows(b)\n\
-    14 violation 2 4 low 3 high 3 def(a)b\\|)\n\
-    15 refuse 1 7 1 syntax 12\n\
-    16 refuse 1 7 2 unknown a\\\\N\n\
-    17 refuse 1 7 3 exists t\n\
-    18 refuse 1 7 4 clash\n\
-    19 refuse 1 7 5 range\n\
-    20 refuse 1 7 10 deadlock 2 3 1\n\
-    21 refuse 1 7 11 aborted\n\
-    22 refuse 1 7 12 block\n\
-    23 refuse 1 7 13 vacuum 3\n\
-    24 refuse 1 7 14 limit rows 16777217\n\
-    25 refuse 1 7 16 memory\n\
-    26 rollback 2 5\n\
-    27 vacuum 0 0 begin t\n\
-    28 vacuum 0 0 slice 255 horizon 2\n\
-    29 vacuum 0 0 end\n\
-    30 refresh 1 stamp 2\n\
-    31 end 64\n";
+    13 commit 1 6 stamp 3 low 3 high 2\n\
+    14 violation 2 4 low 3 high 3 rows(b)\n\
+    15 violation 2 4 low 3 high 3 def(a)b\\|)\n\
+    16 refuse 1 7 1 syntax 12\n\
+    17 refuse 1 7 2 unknown a\\\\N\n\
+    18 refuse 1 7 3 exists t\n\
+    19 refuse 1 7 4 clash\n\
+    20 refuse 1 7 5 range\n\
+    21 refuse 1 7 7 null größe\n\
+    22 refuse 1 7 10 deadlock 2 3 1\n\
+    23 refuse 1 7 11 aborted\n\
+    24 refuse 1 7 12 block\n\
+    25 refuse 1 7 13 vacuum 3\n\
+    26 refuse 1 7 14 limit rows 16777217\n\
+    27 refuse 1 7 16 memory\n\
+    28 rollback 2 5\n\
+    29 vacuum 0 0 begin t\n\
+    30 vacuum 0 0 slice 255 horizon 2\n\
+    31 vacuum 0 0 end\n\
+    32 refresh 1 stamp 2\n\
+    33 end 64\n";
 
 #[test]
 fn reports_are_read_back(rt: HostRuntime) -> Result<(), Fail> {
@@ -54,8 +56,8 @@ fn reports_are_read_back(rt: HostRuntime) -> Result<(), Fail> {
     let read = read_report(alloc, text.as_bytes())
         .ok()
         .ok_or("the lines are of the form")?;
-    assert_eq!(rt; read.journal.events.len(), 31);
-    assert_eq!(rt; read.line, 38);
+    assert_eq!(rt; read.journal.events.len(), 33);
+    assert_eq!(rt; read.line, 40);
     assert_eq!(rt;
         text.as_bytes().get(read.place..),
         Some(b"tables 0\nserial\n".as_slice())
@@ -113,6 +115,8 @@ fn bad_lines_are_told(rt: HostRuntime) -> Result<(), Fail> {
         ("1 end 1\ntable\n", 3),
         ("1 commit 1 1 stamp 18446744073709551616 low 1 high 0\n", 2),
         ("1 refuse 1 1 2 clash\n", 2),
+        ("1 refuse 1 1 7 null\n", 2),
+        ("1 refuse 1 1 6 null x\n", 2),
         ("1 refuse 1 1 2 unknown a\\b\n", 2),
         ("1 refuse 1 1 2 unknown \\N\n", 2),
         ("1 refuse 1 1 2 unknown a|b\n", 2),
@@ -127,6 +131,8 @@ fn bad_lines_are_told(rt: HostRuntime) -> Result<(), Fail> {
         ("1 answer 1 1 SELECT 1\n= \\N\n- 1\n", 3),
         ("1 answer 1 1 SELECT 1\n", 3),
         ("1 answer 1 1 DELETE\n", 2),
+        ("1 answer 1 1 DROP\n", 2),
+        ("1 answer 1 1 DROP TABLE 1\n", 2),
         ("1 pass 1 1 SELECT\n", 2),
     ] {
         let text = format!(in alloc;

@@ -1,9 +1,11 @@
 //! The lines of rows: the names of an answer's columns, its rows, and the rows of a table.
-ghost use Rattle.std.specs.Prelude.{◌≡◌, ◌++◌, OnOk};
-ghost use Rattle.dw_print.specs.Fields.{field, shown_field, value_field, barred};
-ghost use Rattle.dw_print.specs.Rows.{names_line, fields_line, row_line};
+ghost use Rattle.std.specs.Prelude.{◌≡◌, ◌++◌, flat_map, OnOk};
+ghost use Rattle.dw_model.specs.Selection.{shown_all};
+ghost use Rattle.dw_print.specs.Fields.{field, shown_field, after_bar, barred};
+ghost use Rattle.dw_print.specs.Rows.{names_line, fields_line, kinds_in, row_line};
 
 use crate::fields::{write_field, write_shown, write_text, write_value};
+use dw_model::Column;
 use dw_value::{Field, Row, Text, Value};
 use std::alloc::AllocError;
 
@@ -53,25 +55,43 @@ fn write_fields(out: &mut Vec<u8>, fields: &[Field]) -> Result<(), AllocError>
     Ok(())
 }
 
-/// Writes the line of a row of a table.
-pub fn write_row_line(out: &mut Vec<u8>, row: &Row) -> Result<(), AllocError>
-    ensures { OnOk result (out.new.items ≡ out.old.items ++ row_line row.now) }
+/// Writes the line of a row of a table with these columns, each value as its column's kind says. A value past the last
+/// column isn't written.
+pub fn write_row_line(out: &mut Vec<u8>, columns: &[Column], row: &Row) -> Result<(), AllocError>
+    ensures { OnOk result (out.new.items ≡ out.old.items ++ row_line columns.now row.now) }
 {
     write_text(out, "- ")?;
-    write_values(out, row.values.as_slice())?;
+    write_values(out, columns, row.values.as_slice())?;
     write_text(out, "\n")
 }
 
-/// Writes the values of a table's row, with a bar between each two.
-fn write_values(out: &mut Vec<u8>, values: &[Value]) -> Result<(), AllocError>
-    ensures { OnOk result (out.new.items ≡ out.old.items ++ barred value_field values.now) }
+/// Writes the values of columns, with a bar between each two.
+fn write_values(out: &mut Vec<u8>, columns: &[Column], values: &[Value]) -> Result<(), AllocError>
+    ensures { OnOk result (out.new.items ≡ out.old.items ++ barred shown_field (shown_all (kinds_in columns.now) values.now)) }
 {
-    let Some((first, rest)) = values.split_first() else {
+    let Some((column, columns)) = columns.split_first() else {
         return Ok(());
     };
-    write_value(out, "", first)?;
-    for value in rest {
-        write_value(out, "|", value)?;
+    let Some((value, values)) = values.split_first() else {
+        return Ok(());
+    };
+    write_value(out, "", column.kind, value)?;
+    write_more_values(out, columns, values)
+}
+
+/// Writes the values of columns, with a bar before each.
+fn write_more_values(
+    out: &mut Vec<u8>,
+    columns: &[Column],
+    values: &[Value],
+) -> Result<(), AllocError>
+    ensures { OnOk result (out.new.items ≡ out.old.items ++ flat_map (after_bar shown_field) (shown_all (kinds_in columns.now) values.now)) }
+{
+    for (place, value) in values.iter().enumerate() {
+        let Some(column) = columns.get(place) else {
+            return Ok(());
+        };
+        write_value(out, "|", column.kind, value)?;
     }
     Ok(())
 }

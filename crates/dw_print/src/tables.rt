@@ -6,7 +6,7 @@ ghost use Rattle.dw_print.specs.Tables.{table_lines, named_lines, tables_lines};
 
 use crate::fields::{write_field, write_number, write_text};
 use crate::rows::write_row_line;
-use dw_model::{Database, Entry, Table};
+use dw_model::{Column, Database, Entry, Table};
 use dw_value::{Row, Text};
 use std::alloc::AllocError;
 
@@ -36,15 +36,15 @@ fn write_table(out: &mut Vec<u8>, name: &Text, table: &Table) -> Result<(), Allo
     write_field(out, "table ", name.as_bytes())?;
     write_number(out, " rows ", table.rows.len())?;
     write_text(out, "\n")?;
-    write_rows(out, table.rows.as_slice())
+    write_rows(out, table.def.columns.as_slice(), table.rows.as_slice())
 }
 
-/// Writes the rows of a table, each as a line.
-fn write_rows(out: &mut Vec<u8>, rows: &[Row]) -> Result<(), AllocError>
-    ensures { OnOk result (out.new.items ≡ out.old.items ++ flat_map row_line rows.now) }
+/// Writes the rows of a table with these columns, each as a line.
+fn write_rows(out: &mut Vec<u8>, columns: &[Column], rows: &[Row]) -> Result<(), AllocError>
+    ensures { OnOk result (out.new.items ≡ out.old.items ++ flat_map (row_line columns.now) rows.now) }
 {
     for row in rows {
-        write_row_line(out, row)?;
+        write_row_line(out, columns, row)?;
     }
     Ok(())
 }

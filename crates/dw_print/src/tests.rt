@@ -5,7 +5,7 @@ ghost use Rattle.dw_model.specs.Databases.{IsAscending};
 use crate::report_text;
 use dw_journal::{Event, Journal, Route, Shape};
 use dw_model::{Answer, Column, Database, Object, Refusal, Table, TableDef, Word};
-use dw_value::{Field, Kind, List, Row, Text, Value, sort_rows};
+use dw_value::{Encoding, Field, Kind, List, Row, Style, Text, Value, sort_rows};
 use std::alloc::{AllocError, Global};
 use std::test::Fail;
 
@@ -53,6 +53,9 @@ fn reports_are_as_the_format_says(rt: HostRuntime) -> Result<(), Fail> {
         },
         Refusal::Clash,
         Refusal::Range,
+        Refusal::NullIn {
+            column: Text::from_str(alloc, "a|b")?
+        },
         Refusal::Memory,
     ]?;
     let journal = refusing(alloc, each)?;
@@ -62,8 +65,9 @@ fn reports_are_as_the_format_says(rt: HostRuntime) -> Result<(), Fail> {
         3 refuse 1 9 3 exists größe\n\
         4 refuse 1 10 4 clash\n\
         5 refuse 1 11 5 range\n\
-        6 refuse 1 12 16 memory\n\
-        7 end 1\ntables 0\nserial\n";
+        6 refuse 1 12 7 null a\\|b\n\
+        7 refuse 1 13 16 memory\n\
+        8 end 1\ntables 0\nserial\n";
     assert_eq!(rt;
         report_text(alloc, &journal, &database, &serial)?.as_slice(),
         expected.as_bytes()
@@ -115,22 +119,28 @@ fn shown(alloc: Global, text: &str) -> Result<Field, AllocError> {
     Ok(Field::Shown(Text::from_str(alloc, text)?))
 }
 
-/// A table of a column of whole numbers and one of texts, with these rows.
-fn table(alloc: Global, rows: List<Row>) -> Result<Table, AllocError>
+/// A table of columns of these kinds, with these rows.
+fn table(alloc: Global, kinds: &[Kind], rows: List<Row>) -> Result<Table, AllocError>
     ensures { IfOk result (λ table. IsAscending table.rows) }
 {
     let mut columns = List::new(alloc);
-    columns.push(Column {
-        name: Text::from_str(alloc, "x")?,
-        kind: Kind::Int,
-    })?;
-    columns.push(Column {
-        name: Text::from_str(alloc, "s")?,
-        kind: Kind::Varchar { length: 3 },
-    })?;
+    for kind in kinds {
+        columns.push(Column {
+            name: Text::from_str(alloc, "c")?,
+            kind: *kind,
+            not_null: false,
+            default: Value::Null,
+            encoding: Encoding::Raw,
+        })?;
+    }
     let rows = sort_rows(rows)?;
     Ok(Table {
-        def: TableDef { columns },
+        def: TableDef {
+            name: Text::from_str(alloc, "t")?,
+            columns,
+            style: Style::Even,
+            sort: List::new(alloc),
+        },
         rows,
     })
 }
@@ -209,7 +219,7 @@ fn put_table(
     for (number, text) in rows {
         list.push(pair(alloc, *number, *text)?)?;
     }
-    let table = table(alloc, list)?;
+    let table = table(alloc, &[Kind::Int, Kind::Varchar { length: 3 }], list)?;
     database.put(Text::from_str(alloc, name)?, table)
 }
 
@@ -228,6 +238,97 @@ fn committed_statements_are_printed(rt: HostRuntime) -> Result<(), Fail> {
     let expected =
         b"warehouse nodes 2 slices 2 clusters 1 slots 5 sessions 1\n1 open 1 1 snapshot 0 main\n2 answer 1 1 CREATE TABLE\n3 commit 1 1 stamp 1 low 1 high 0\n4 open 1 2 snapshot 1 main\n5 answer 1 2 INSERT 2\n6 commit 1 2 stamp 2 low 2 high 1\n7 open 1 3 snapshot 2 main\n8 answer 1 3 SELECT 1\n= x|s\n- 1|\\N\n9 commit 1 3 stamp 3 low 3 high 2\n10 end 1\ntables 1\ntable t rows 2\n- 1|\\N\n- 2|b\nserial 1 2 3\n";
     assert_eq!(rt; report.as_slice(), expected.as_slice());
+    Ok(())
+}
+
+/// A text as a value.
+fn written(alloc: Global, text: &str) -> Result<Value, AllocError> {
+    Ok(Value::Words(Text::from_str(alloc, text)?))
+}
+
+/// Adds a row of these values.
+fn push_row(rows: &mut List<Row>, values: Vec<Value>) -> Result<(), AllocError> {
+    rows.push(Row {
+        values: List::from_vec(values),
+    })
+}
+
+/// Three rows of columns of every kind: SMALLINT, BIGINT, DECIMAL(38,37), DECIMAL(12,2), DECIMAL(18,0), CHAR, VARCHAR,
+/// DATE twice, BOOLEAN.
+fn rows_of_every_kind(alloc: Global) -> Result<List<Row>, AllocError> {
+    let mut rows = List::new(alloc);
+    let values = vec![in alloc;
+        Value::Number(-32_768),
+        Value::Number(9_223_372_036_854_775_807),
+        Value::Number(99_999_999_999_999_999_999_999_999_999_999_999_999),
+        Value::Number(-5),
+        Value::Number(-7),
+        written(alloc, "a b")?,
+        written(alloc, "x|y\\z")?,
+        Value::Day(-719_162),
+        Value::Day(2_932_896),
+        Value::Truth(true),
+    ]?;
+    push_row(&mut rows, values)?;
+    let values = vec![in alloc;
+        Value::Number(32_767),
+        Value::Number(-9_223_372_036_854_775_808),
+        Value::Number(-1),
+        Value::Number(100_000),
+        Value::Number(0),
+        written(alloc, "")?,
+        written(alloc, "\\N")?,
+        Value::Day(0),
+        Value::Null,
+        Value::Truth(false),
+    ]?;
+    push_row(&mut rows, values)?;
+    let mut values = Vec::new(alloc);
+    for _ in 0..10 {
+        values.push(Value::Null)?;
+    }
+    push_row(&mut rows, values)?;
+    Ok(rows)
+}
+
+#[test]
+fn rows_of_tables_are_printed_by_the_kinds_of_their_columns(rt: HostRuntime) -> Result<(), Fail> {
+    let alloc = rt.alloc();
+    let kinds = [
+        Kind::Small,
+        Kind::Big,
+        Kind::Decimal {
+            precision: 38,
+            scale: 37,
+        },
+        Kind::Decimal {
+            precision: 12,
+            scale: 2,
+        },
+        Kind::Decimal {
+            precision: 18,
+            scale: 0,
+        },
+        Kind::Char { length: 5 },
+        Kind::Varchar { length: 9 },
+        Kind::Date,
+        Kind::Date,
+        Kind::Bool,
+    ];
+    let table = table(alloc, &kinds, rows_of_every_kind(alloc)?)?;
+    let mut database = Database::new(alloc);
+    database.put(Text::from_str(alloc, "v")?, table)?;
+    let journal = refusing(alloc, Vec::new(alloc))?;
+    let expected = "warehouse nodes 2 slices 2 clusters 1 slots 5 sessions 1\n\
+        1 end 1\n\
+        tables 1\n\
+        table v rows 3\n\
+        - -32768|9223372036854775807|9.9999999999999999999999999999999999999|-0.05|-7|a b|x\\|y\\\\z|0001-01-01|9999-12-31|t\n\
+        - 32767|-9223372036854775808|-0.0000000000000000000000000000000000001|1000.00|0||\\\\N|1970-01-01|\\N|f\n\
+        - \\N|\\N|\\N|\\N|\\N|\\N|\\N|\\N|\\N|\\N\n\
+        serial\n";
+    let report = report_text(alloc, &journal, &database, &List::new(alloc))?;
+    assert_eq!(rt; report.as_slice(), expected.as_bytes());
     Ok(())
 }
 
