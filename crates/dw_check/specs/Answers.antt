@@ -13,7 +13,7 @@ use Rattle.dw_judge.specs.Verdicts.{IsNotLegal, DoesNotFollow}
 use Rattle.dw_journal.specs.Serial.{IsSerial, serial_order}
 use Rattle.dw_print.specs.Checked.{checked_text}
 use Rattle.dw_print.specs.Report.{report}
-use Rattle.dw_print.specs.ReportReading.{journal_at, line_at}
+use Rattle.dw_read_report.specs.ReportReading.{journal_at, line_at}
 use Rattle.dw_input.specs.Words.{names_of}
 use Rattle.dw_input.specs.Files.{file_of, files_of, bytes_under}
 use Rattle.dw_input.specs.Scripts.{bad_script, world_of, world_under}

@@ -3,7 +3,7 @@ ghost use Rattle.dw_journal.specs.declared.Journal.{Journal as Events};
 ghost use Rattle.dw_journal.specs.declared.World.{World as Beside};
 ghost use Rattle.dw_journal.specs.Follows.{Follows};
 ghost use Rattle.dw_journal.specs.Legal.{IsLegal};
-ghost use Rattle.dw_print.specs.Readable.{IsReadable};
+ghost use Rattle.dw_read_report.specs.Readable.{IsReadable};
 ghost use Rattle.dw_print.specs.Report.{report};
 ghost use Rattle.dw_script.specs.declared.status.Status.TheVariants.{Ok as Right};
 ghost use Rattle.dw_check.specs.Answers.{IsAnswer};

@@ -5,7 +5,3 @@ pub mod Tables
 pub mod Events
 pub mod Report
 pub mod Checked
-pub mod Reading
-pub mod EventReading
-pub mod ReportReading
-pub mod Readable

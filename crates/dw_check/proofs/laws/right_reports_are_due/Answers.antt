@@ -6,7 +6,7 @@ use Rattle.dw_journal.specs.Contents.{contents}
 use Rattle.dw_journal.specs.History.{history_of}
 use Rattle.dw_journal.specs.Serial.{serial_order}
 use Rattle.dw_print.specs.Report.{report}
-use Rattle.dw_print.proofs.AgainLines.{report_again}
+use Rattle.dw_read_report.proofs.AgainLines.{report_again}
 use Rattle.dw_check.specs.Answers.{IsAnswered, read_by}
 use Rattle.dw_check.proofs.laws.right_reports_are_due.Goals as goal
 

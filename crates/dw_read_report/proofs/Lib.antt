@@ -1,0 +1,13 @@
+pub mod Labels
+pub mod Numbers
+pub mod Items
+pub mod Texts
+pub mod LineItems
+pub mod Taking
+pub mod TakenParts
+pub mod TakenEvents
+pub mod TakenLines
+pub mod Again
+pub mod AgainParts
+pub mod AgainEvents
+pub mod AgainLines

@@ -1,0 +1,4 @@
+pub mod Reading
+pub mod EventReading
+pub mod ReportReading
+pub mod Readable
