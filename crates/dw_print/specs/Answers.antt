@@ -4,7 +4,7 @@
 --     - 1|\N
 use Rattle.std.specs.Prelude.{ℕ, List, ◌++◌, length, flat_map, codes, decimal}
 use Rattle.dw_model.specs.declared.answers.Word.{Word}
-use Rattle.dw_model.specs.declared.answers.Word.TheVariants.{Begin, Commit, Rollback, CreateTable, DropTable, Insert, Select}
+use Rattle.dw_model.specs.declared.answers.Word.TheVariants.{Begin, Commit, Rollback, CreateTable, DropTable, LockTable, Insert, Select}
 use Rattle.dw_model.specs.declared.answers.Answer.{Answer}
 use Rattle.dw_model.specs.declared.answers.Answer.TheVariants.{Rows, Count, Plain}
 use Rattle.dw_print.specs.Rows.{names_line, fields_line}
@@ -16,6 +16,7 @@ word_text Commit = codes "COMMIT"
 word_text Rollback = codes "ROLLBACK"
 word_text CreateTable = codes "CREATE TABLE"
 word_text DropTable = codes "DROP TABLE"
+word_text LockTable = codes "LOCK TABLE"
 word_text Insert = codes "INSERT"
 word_text Select = codes "SELECT"
 

@@ -43,6 +43,7 @@ pub fn write_word(out: &mut Vec<u8>, word: Word) -> Result<(), AllocError>
         Word::Rollback => write_text(out, "ROLLBACK"),
         Word::CreateTable => write_text(out, "CREATE TABLE"),
         Word::DropTable => write_text(out, "DROP TABLE"),
+        Word::LockTable => write_text(out, "LOCK TABLE"),
         Word::Insert => write_text(out, "INSERT"),
         Word::Select => write_text(out, "SELECT"),
     }

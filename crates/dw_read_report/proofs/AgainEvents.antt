@@ -31,7 +31,7 @@ use Rattle.dw_read_report.specs.Reading.{Reading, ◌>>=◌, both, field_at, mea
 use Rattle.dw_read_report.specs.EventReading.{answer_after, answer_at, answer_word_at, begin_at, closed_text_at, commit_at, end_at, head_after, head_at, kind_at, object_at, object_of, open_at, pass_at, pass_word_at, rarer_kind_at, rarer_reason_at, reason_at, refresh_at, refusal_after, refusal_at, refuse_at, rollback_at, route_at, step_at, vacuum_after, vacuum_at, violation_at, wait_at, without_parenthesis}
 use Rattle.dw_read_report.proofs.Texts.{parenthesis_goes}
 use Rattle.dw_read_report.proofs.TakenParts.{place_text}
-use Rattle.dw_read_report.proofs.TakenEvents.{IsAnswerWord, answer_word_text, create_line, drop_line, form_text, head_text, insert_line, kind_of, kind_text, one_more, reason_of, reason_text, refused_is, refused_text, refusal_line, rest_text, same_object_text, slice_more, step_text, tail_text, three_more, two_more}
+use Rattle.dw_read_report.proofs.TakenEvents.{IsAnswerWord, answer_word_text, create_line, drop_line, lock_line, form_text, head_text, insert_line, kind_of, kind_text, one_more, reason_of, reason_text, refused_is, refused_text, refusal_line, rest_text, same_object_text, slice_more, step_text, tail_text, three_more, two_more}
 use Rattle.dw_read_report.proofs.Again.{Again, Anything, again_after, again_before, again_both, meant_again, next_is}
 use Rattle.dw_read_report.proofs.AgainParts.{IsAfterField, IsAfterItems, IsAfterNumber, again_long, again_number, again_sessions, again_short, again_statement, again_text, field_again}
 
@@ -80,6 +80,7 @@ answer_word_again words.Commit rest none = absurd none
 answer_word_again words.Rollback rest none = absurd none
 answer_word_again words.CreateTable rest fits = (refl, refl)
 answer_word_again words.DropTable rest fits = (refl, refl)
+answer_word_again words.LockTable rest fits = (refl, refl)
 answer_word_again words.Insert rest fits = (refl, refl)
 answer_word_again words.Select rest fits = (refl, refl)
 
@@ -90,6 +91,7 @@ pass_word_again words.Commit rest fits = refl
 pass_word_again words.Rollback rest fits = refl
 pass_word_again words.CreateTable rest none = absurd none
 pass_word_again words.DropTable rest none = absurd none
+pass_word_again words.LockTable rest none = absurd none
 pass_word_again words.Insert rest none = absurd none
 pass_word_again words.Select rest none = absurd none
 
@@ -308,6 +310,9 @@ plain_again words.CreateTable s q fits a b rest =
 plain_again words.DropTable s q fits a b rest =
     answer_again words.DropTable s q (heads.Whole (events.Answer s q (answers.Plain words.DropTable))) (codes "\n") rest tt a b
     (drop_line (place_text (s, q))) refl
+plain_again words.LockTable s q fits a b rest =
+    answer_again words.LockTable s q (heads.Whole (events.Answer s q (answers.Plain words.LockTable))) (codes "\n") rest tt a b
+    (lock_line (place_text (s, q))) refl
 
 count_again : (s q count : ℕ) → IsShort s → IsShort q → IsLong count
     → IsHeadRead kinds.Answer (heads.Whole (events.Answer s q (answers.Count words.Insert count)))

@@ -433,6 +433,7 @@ IsHead kind (heads.WithRows session statement count) = (IsShort session × IsSho
 abbrev pub answer_word_text : Word → List ℕ
 answer_word_text words.CreateTable = codes " CREATE TABLE"
 answer_word_text words.DropTable = codes " DROP TABLE"
+answer_word_text words.LockTable = codes " LOCK TABLE"
 answer_word_text words.Insert = codes " INSERT "
 answer_word_text words.Select = codes " SELECT "
 answer_word_text word = []
@@ -440,6 +441,7 @@ answer_word_text word = []
 abbrev pub IsAnswerWord : Word → Type 0
 IsAnswerWord words.CreateTable = Unit {0}
 IsAnswerWord words.DropTable = Unit {0}
+IsAnswerWord words.LockTable = Unit {0}
 IsAnswerWord words.Insert = Unit {0}
 IsAnswerWord words.Select = Unit {0}
 IsAnswerWord word = ⊥
@@ -449,8 +451,9 @@ unfolding answer_word_at
 takes_answer_word =
     takes_otherwise (takes_word (codes " CREATE TABLE") words.CreateTable answer_word_text IsAnswerWord refl tt)
     (takes_otherwise (takes_word (codes " DROP TABLE") words.DropTable answer_word_text IsAnswerWord refl tt)
+    (takes_otherwise (takes_word (codes " LOCK TABLE") words.LockTable answer_word_text IsAnswerWord refl tt)
     (takes_otherwise (takes_word (codes " INSERT ") words.Insert answer_word_text IsAnswerWord refl tt)
-    (takes_word (codes " SELECT ") words.Select answer_word_text IsAnswerWord refl tt)))
+    (takes_word (codes " SELECT ") words.Select answer_word_text IsAnswerWord refl tt))))
 
 -- the head that was read after a place and a label
 after_words : (place label bytes more rest tail : List ℕ) (read head : Head) → ◌≡◌ {A = Option (Head × List ℕ)} (Some (read, more)) (Some (head, rest))
@@ -468,6 +471,9 @@ create_line p = simp append_assoc
 
 pub drop_line : (p : List ℕ) → p ++ codes " " ++ (codes "DROP TABLE" ++ codes "\n") ≡ p ++ (codes " DROP TABLE" ++ codes "\n")
 drop_line p = simp append_assoc
+
+pub lock_line : (p : List ℕ) → p ++ codes " " ++ (codes "LOCK TABLE" ++ codes "\n") ≡ p ++ (codes " LOCK TABLE" ++ codes "\n")
+lock_line p = simp append_assoc
 
 abbrev AnswerTaken : Word → ℕ → ℕ → Head → List ℕ → List ℕ → Type 0
 AnswerTaken word session statement head bytes rest =
@@ -488,6 +494,11 @@ answer_taken words.DropTable session statement fits a b bytes rest head is =
     let x = bind_some (after_label (codes "\n") bytes) (λ more. Some (made, more)) (head, rest) is in
     after_words (place_text (session, statement)) (codes " DROP TABLE") bytes x.0 rest (codes "\n") made head x.2
     (drop_line (place_text (session, statement))) (label_is_taken (codes "\n") bytes x.0 x.1) ((a, b, tt), refl)
+answer_taken words.LockTable session statement fits a b bytes rest head is =
+    let made : Head = heads.Whole (events.Answer session statement (answers.Plain words.LockTable)) in
+    let x = bind_some (after_label (codes "\n") bytes) (λ more. Some (made, more)) (head, rest) is in
+    after_words (place_text (session, statement)) (codes " LOCK TABLE") bytes x.0 rest (codes "\n") made head x.2
+    (lock_line (place_text (session, statement))) (label_is_taken (codes "\n") bytes x.0 x.1) ((a, b, tt), refl)
 answer_taken words.Insert session statement fits a b bytes rest head is =
     let x = bind_some (before long_number (codes "\n") bytes) (λ y. Some (heads.Whole (events.Answer session statement (answers.Count words.Insert y.0)), y.1)) (head, rest) is in
     let here = (takes_before (codes "\n") takes_long).whole bytes x.0.1 x.0.0 x.1 in

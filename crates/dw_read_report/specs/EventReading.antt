@@ -170,7 +170,8 @@ unfoldable pub answer_word_at : Reading Word
 answer_word_at =
     otherwise (word_at (codes " CREATE TABLE") words.CreateTable)
     (otherwise (word_at (codes " DROP TABLE") words.DropTable)
-    (otherwise (word_at (codes " INSERT ") words.Insert) (word_at (codes " SELECT ") words.Select)))
+    (otherwise (word_at (codes " LOCK TABLE") words.LockTable)
+    (otherwise (word_at (codes " INSERT ") words.Insert) (word_at (codes " SELECT ") words.Select))))
 
 abbrev pub answer_after : Word → ℕ → ℕ → Reading Head
 answer_after words.Insert session statement =

@@ -57,6 +57,7 @@ IsPassWord word = ⊥
 abbrev pub IsPlainWord : Word → Type 0
 IsPlainWord words.CreateTable = Unit {0}
 IsPlainWord words.DropTable = Unit {0}
+IsPlainWord words.LockTable = Unit {0}
 IsPlainWord word = ⊥
 
 abbrev pub IsReadableAnswer : Answer → Type 0

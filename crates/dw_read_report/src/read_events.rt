@@ -393,6 +393,9 @@ fn read_answer_word(bytes: &[u8]) -> Result<(Word, &[u8]), LineFault>
     if let Some(rest) = after_label(bytes, " DROP TABLE") {
         return Ok((Word::DropTable, rest));
     }
+    if let Some(rest) = after_label(bytes, " LOCK TABLE") {
+        return Ok((Word::LockTable, rest));
+    }
     if let Some(rest) = after_label(bytes, " INSERT ") {
         return Ok((Word::Insert, rest));
     }

@@ -17,35 +17,36 @@ const LINES: &str = "1 begin 2 1\n\
     7 open 2 3 snapshot 0 cluster 9\n\
     8 answer 2 3 CREATE TABLE\n\
     9 answer 2 3 DROP TABLE\n\
-    10 answer 2 3 INSERT 0\n\
-    11 answer 2 3 SELECT 3\n\
+    10 answer 2 3 LOCK TABLE\n\
+    11 answer 2 3 INSERT 0\n\
+    12 answer 2 3 SELECT 3\n\
     = x|a\\|b\n\
     - 1|\\N\n\
     - |a\\\\N\\n\\r\n\
     - größe\n\
-    12 answer 4294967295 0 SELECT 0\n\
+    13 answer 4294967295 0 SELECT 0\n\
     = \n\
-    13 commit 1 6 stamp 3 low 3 high 2\n\
-    14 violation 2 4 low 3 high 3 rows(b)\n\
-    15 violation 2 4 low 3 high 3 def(a)b\\|)\n\
-    16 refuse 1 7 1 syntax 12\n\
-    17 refuse 1 7 2 unknown a\\\\N\n\
-    18 refuse 1 7 3 exists t\n\
-    19 refuse 1 7 4 clash\n\
-    20 refuse 1 7 5 range\n\
-    21 refuse 1 7 7 null größe\n\
-    22 refuse 1 7 10 deadlock 2 3 1\n\
-    23 refuse 1 7 11 aborted\n\
-    24 refuse 1 7 12 block\n\
-    25 refuse 1 7 13 vacuum 3\n\
-    26 refuse 1 7 14 limit rows 16777217\n\
-    27 refuse 1 7 16 memory\n\
-    28 rollback 2 5\n\
-    29 vacuum 0 0 begin t\n\
-    30 vacuum 0 0 slice 255 horizon 2\n\
-    31 vacuum 0 0 end\n\
-    32 refresh 1 stamp 2\n\
-    33 end 64\n";
+    14 commit 1 6 stamp 3 low 3 high 2\n\
+    15 violation 2 4 low 3 high 3 rows(b)\n\
+    16 violation 2 4 low 3 high 3 def(a)b\\|)\n\
+    17 refuse 1 7 1 syntax 12\n\
+    18 refuse 1 7 2 unknown a\\\\N\n\
+    19 refuse 1 7 3 exists t\n\
+    20 refuse 1 7 4 clash\n\
+    21 refuse 1 7 5 range\n\
+    22 refuse 1 7 7 null größe\n\
+    23 refuse 1 7 10 deadlock 2 3 1\n\
+    24 refuse 1 7 11 aborted\n\
+    25 refuse 1 7 12 block\n\
+    26 refuse 1 7 13 vacuum 3\n\
+    27 refuse 1 7 14 limit rows 16777217\n\
+    28 refuse 1 7 16 memory\n\
+    29 rollback 2 5\n\
+    30 vacuum 0 0 begin t\n\
+    31 vacuum 0 0 slice 255 horizon 2\n\
+    32 vacuum 0 0 end\n\
+    33 refresh 1 stamp 2\n\
+    34 end 64\n";
 
 #[test]
 fn reports_are_read_back(rt: HostRuntime) -> Result<(), Fail> {
@@ -57,8 +58,8 @@ fn reports_are_read_back(rt: HostRuntime) -> Result<(), Fail> {
     let read = read_report(alloc, text.as_bytes())
         .ok()
         .ok_or("the lines are of the form")?;
-    assert_eq!(rt; read.journal.events.len(), 33);
-    assert_eq!(rt; read.line, 40);
+    assert_eq!(rt; read.journal.events.len(), 34);
+    assert_eq!(rt; read.line, 41);
     assert_eq!(rt;
         text.as_bytes().get(read.place..),
         Some(b"tables 0\nserial\n".as_slice())

@@ -1,0 +1,4 @@
+BEGIN;
+LOCK b;
+LOCK c;
+COMMIT;

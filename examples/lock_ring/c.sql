@@ -1,0 +1,4 @@
+BEGIN;
+LOCK c;
+LOCK TABLE public.a, b;
+COMMIT;
