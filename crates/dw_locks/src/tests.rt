@@ -215,55 +215,77 @@ fn calls_are_answered(rt: HostRuntime) -> Result<(), Fail> {
     Ok(())
 }
 
-/// What each form of statement wants, each lock as its mode and its table; what the grammar refused wants nothing.
+/// The statement of a word, of the table `a`; LOCK is of `b` and `a`.
+fn statement(alloc: Global, form: &str) -> Result<Statement, AllocError> {
+    let table = Text::from_str(alloc, "a")?;
+    match form {
+        "vacuum" => Ok(Statement::Vacuum { table }),
+        "create" => Ok(Statement::Create {
+            spec: TableSpec::new(table, List::new(alloc)),
+        }),
+        "drop" => Ok(Statement::Drop { table }),
+        "lock" => lock(alloc, table),
+        "insert" => Ok(Statement::Insert {
+            table,
+            columns: List::new(alloc),
+            rows: List::new(alloc),
+        }),
+        "select" => Ok(Statement::Select {
+            query: Query {
+                items: List::new(alloc),
+                table,
+                keep: None,
+            },
+        }),
+        "commit" => Ok(Statement::Commit),
+        "rollback" => Ok(Statement::Rollback),
+        _ => Ok(Statement::Begin),
+    }
+}
+
+fn lock(alloc: Global, table: Text) -> Result<Statement, AllocError> {
+    let mut tables = List::new(alloc);
+    tables.push(Text::from_str(alloc, "b")?)?;
+    tables.push(table)?;
+    Ok(Statement::Lock { tables })
+}
+
+/// Locks in words: the mode and the table of each.
+fn wants_text(alloc: Global, wants: &[Want]) -> Result<String, AllocError> {
+    let mut told = String::new(alloc);
+    for want in wants {
+        told.push_str(match want.mode {
+            Mode::AccessShare => " share ",
+            Mode::ShareRowExclusive => " write ",
+            Mode::AccessExclusive => " whole ",
+        })?;
+        told.push_str(want.table.as_str())?;
+    }
+    Ok(told)
+}
+
+/// What each form of statement wants; what the grammar refused wants nothing.
 #[test]
 fn statements_want_their_locks(rt: HostRuntime) -> Result<(), Fail> {
     let alloc = rt.alloc();
-    let a = Text::from_str(alloc, "a")?;
-    let mut tables = List::new(alloc);
-    tables.push(Text::from_str(alloc, "b")?)?;
-    tables.push(a.copy()?)?;
-    let insert = Statement::Insert {
-        table: a.copy()?,
-        columns: List::new(alloc),
-        rows: List::new(alloc),
-    };
-    let select = Statement::Select {
-        query: Query {
-            items: List::new(alloc),
-            table: a.copy()?,
-            keep: None,
-        },
-    };
-    let create = Statement::Create {
-        spec: TableSpec::new(a.copy()?, List::new(alloc)),
-    };
-    for (statement, wanted) in [
-        (Statement::Vacuum { table: a.copy()? }, "share a"),
-        (create, "whole a"),
-        (Statement::Drop { table: a.copy()? }, "whole a"),
-        (Statement::Lock { tables }, "whole b whole a"),
-        (insert, "write a"),
-        (select, "share a"),
-        (Statement::Begin, ""),
-        (Statement::Commit, ""),
-        (Statement::Rollback, ""),
+    for (form, wanted) in [
+        ("vacuum", " share a"),
+        ("create", " whole a"),
+        ("drop", " whole a"),
+        ("lock", " whole b whole a"),
+        ("insert", " write a"),
+        ("select", " share a"),
+        ("begin", ""),
+        ("commit", ""),
+        ("rollback", ""),
     ] {
-        let given = Given::Read(statement);
+        let given = Given::Read(statement(alloc, form)?);
         let wants = wants(alloc, Some(&given))?;
-        let mut told = String::new(alloc);
-        for want in wants.as_slice() {
-            if !told.is_empty() {
-                told.push(' ')?;
-            }
-            told.push_str(match want.mode {
-                Mode::AccessShare => "share ",
-                Mode::ShareRowExclusive => "write ",
-                Mode::AccessExclusive => "whole ",
-            })?;
-            told.push_str(want.table.as_str())?;
-        }
-        assert_eq!(rt; told.as_str(), wanted);
+        assert_eq!(rt;
+            wants_text(alloc, wants.as_slice())?.as_str(),
+            wanted,
+            "{form}"
+        );
     }
     let refused = Given::Refused(Refusal::Clash);
     assert_eq!(rt; wants(alloc, Some(&refused))?.len(), 0);

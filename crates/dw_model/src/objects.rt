@@ -237,33 +237,49 @@ mod tests {
         Ok(())
     }
 
+    // The statement of a word, of the table `t`; LOCK is of `u`, `t` and `u`.
+    fn statement(alloc: Global, form: &str) -> Result<Statement, AllocError> {
+        let table = Text::from_str(alloc, "t")?;
+        match form {
+            "create" => create(alloc, table),
+            "drop" => Ok(Statement::Drop { table }),
+            "insert" => Ok(Statement::Insert {
+                table,
+                columns: List::new(alloc),
+                rows: List::new(alloc),
+            }),
+            "lock" => lock(alloc, table),
+            _ => Ok(Statement::Begin),
+        }
+    }
+
+    fn create(alloc: Global, table: Text) -> Result<Statement, AllocError> {
+        let mut columns = List::new(alloc);
+        columns.push(ColumnSpec::new(table.copy()?, Kind::Int))?;
+        Ok(Statement::Create {
+            spec: TableSpec::new(table, columns),
+        })
+    }
+
+    fn lock(alloc: Global, table: Text) -> Result<Statement, AllocError> {
+        let mut tables = List::new(alloc);
+        tables.push(Text::from_str(alloc, "u")?)?;
+        tables.push(table)?;
+        tables.push(Text::from_str(alloc, "u")?)?;
+        Ok(Statement::Lock { tables })
+    }
+
     #[test]
     fn statements_read_and_write(rt: HostRuntime) -> Result<(), Fail> {
         let alloc = rt.alloc();
-        let mut columns = List::new(alloc);
-        columns.push(ColumnSpec::new(Text::from_str(alloc, "x")?, Kind::Int))?;
-        let spec = TableSpec::new(Text::from_str(alloc, "t")?, columns);
-        assert_eq!(rt; spec.columns.len(), 1);
-        assert!(rt; spec.named.is_empty() && spec.style.is_none());
-        let dropped = Statement::Drop {
-            table: Text::from_str(alloc, "t")?,
-        };
-        let insert = Statement::Insert {
-            table: Text::from_str(alloc, "t")?,
-            columns: List::new(alloc),
-            rows: List::new(alloc),
-        };
-        let mut tables = List::new(alloc);
-        for name in ["u", "t", "u"] {
-            tables.push(Text::from_str(alloc, name)?)?;
-        }
-        for (statement, reads, writes) in [
-            (Statement::Lock { tables }, " d t d u", ""),
-            (Statement::Create { spec }, " d t r t", " d t r t"),
-            (dropped, " d t r t", " d t r t"),
-            (insert, " d t", " r t"),
-            (Statement::Begin, "", ""),
+        for (form, reads, writes) in [
+            ("create", " d t r t", " d t r t"),
+            ("drop", " d t r t", " d t r t"),
+            ("insert", " d t", " r t"),
+            ("lock", " d t d u", ""),
+            ("begin", "", ""),
         ] {
+            let statement = statement(alloc, form)?;
             assert_eq!(rt;
                 text_of(alloc, statement.reads(alloc)?.as_slice())?.as_str(),
                 reads
