@@ -1,0 +1,5 @@
+pub mod Counting
+pub mod Ways
+pub mod Waits
+pub mod Holding
+pub mod NoStuckRun
