@@ -1,33 +1,27 @@
 -- What is kept decides whether events are legal.
-use Rattle.std.proofs.Common.{◌≡◌, ℕ, suc, ◌+◌, ◌<◌, ◌≤◌, Bool, true, false, List, [], ◌∷◌, ◌++◌, length, get_or, refl, sym, ap, subst, ◌∙◌, arith}
-use Rattle.std.specs.Prelude.{Option, Some, None, ◌&&◌, is_some, nat_eq, nat_le, nat_lt, not, ◌==◌, option_map, slice_get, reverse, flat_map}
+use Rattle.std.proofs.Common.{◌≡◌, ℕ, suc, ◌+◌, ◌<◌, ◌≤◌, Bool, true, false, List, [], ◌∷◌, length, get_or, refl, sym, ap, subst, ◌∙◌, arith}
+use Rattle.std.specs.Prelude.{Option, Some, None, ◌&&◌, is_some, nat_eq, nat_le, nat_lt, option_map, slice_get, reverse}
 use Rattle.std.specs.Bool.{Decides}
 use Rattle.std.specs.FinMap as map_of
-use Rattle.std.specs.List.{filter, find, list_any, position, position_from, range_with_len}
+use Rattle.std.specs.List.{find, position, position_from, range_with_len}
 use Rattle.std.specs.Option.{option_map_or}
 use Rattle.std.proofs.lemmas.Bool.{eqb-true, eq-eqb, ltb-true, lt-ltb, leb-true, le-leb, and_parts, and_from, false≢true}
 use Rattle.std.proofs.lemmas.Iterator.Adapters.{position_from-zero}
 use Rattle.std.proofs.lemmas.Option.{slice_get_read}
 use Rattle.dw_model.specs.declared.objects.Object.{Object}
 use Rattle.dw_model.specs.declared.objects.Object.TheVariants.{Def, Rows}
-use Rattle.dw_model.specs.declared.statements.Statement.{Statement}
-use Rattle.dw_model.specs.declared.statements.Statement.TheVariants as forms
 use Rattle.dw_model.specs.declared.tables.Table.{Table}
-use Rattle.dw_model.specs.Binding.{same_name}
 use Rattle.dw_model.specs.Databases.{Tables}
 use Rattle.dw_model.specs.Objects.{same_object}
 use Rattle.dw_journal.specs.declared.Certified.{Certified}
 use Rattle.dw_journal.specs.declared.Event.{Event}
 use Rattle.dw_journal.specs.declared.Taken.{Taken}
-use Rattle.dw_journal.specs.declared.locks.Mode.{Mode}
-use Rattle.dw_journal.specs.declared.locks.Mode.TheVariants.{AccessShare}
-use Rattle.dw_journal.specs.declared.locks.Want.{Want}
-use Rattle.dw_journal.specs.Worlds.{session_count, statement_at}
+use Rattle.dw_journal.specs.Worlds.{session_count}
 use Rattle.dw_journal.specs.History.{History}
 use Rattle.dw_journal.specs.Transactions.{Transaction, transaction_of, opened_statements, taken_over, taken_of, snapshot_in, commits}
 use Rattle.dw_journal.specs.Contents.{contents}
 use Rattle.dw_journal.specs.Vacuums.{swept_by, sweeper}
-use Rattle.dw_journal.specs.Locks.{lock_state, blockers, conflict, has_conflict, held_locks, stands_in_way, sweep_lock, sweep_locks, wants_in, wants_of}
+use Rattle.dw_journal.specs.Locks.{lock_state, blockers, sweep_lock}
 use Rattle.dw_journal.specs.Watermarks.{low_watermark, high_watermark, violated_object}
 use Rattle.dw_journal.specs.Legal.{IsLegalCommit, IsLegalRefresh, IsLegalSlice, IsLegalSweep, IsLegalViolation, absent_refusal, certified, high_by, high_of, low_by, low_of, object_by, object_of}
 use Rattle.dw_judge.specs.declared.sessions.OpenOne.{OpenOne}
@@ -168,70 +162,6 @@ refresh_decided events history summary stands cluster stamp count result counted
           (eq-eqb stamp count (legal.2 ∙ sym all))),
     )
 
--- ---- locks: all are for reading, and stand side by side
-abbrev Shares : List Want → Type 0
-Shares [] = Unit {0}
-Shares (want ∷ wants) = (want.mode ≡ AccessShare) × Shares wants
-
-shares-append : (a b : List Want) → Shares a → Shares b → Shares (a ++ b)
-shares-append [] b first second = second
-shares-append (want ∷ a) b first second = (first.0, shares-append a b first.1 second)
-
-wants-share : (statement : Option Statement) → Shares (wants_in statement)
-wants-share None = tt
-wants-share (Some (forms.Vacuum table)) = (refl, tt)
-wants-share (Some statement) = tt
-
-all-share : (wants : ℕ → List Want) (statements : List ℕ) → ((k : ℕ) → Shares (wants k)) → Shares (flat_map wants statements)
-all-share wants [] each = tt
-all-share wants (k ∷ statements) each = shares-append (wants k) (flat_map wants statements) (each k) (all-share wants statements each)
-
-sweep-shares : (swept : Option (List ℕ)) → Shares (sweep_locks swept)
-sweep-shares None = tt
-sweep-shares (Some table) = (refl, tt)
-
-and_false : (b : Bool) → (b && false) ≡ false
-and_false true = refl
-and_false false = refl
-
-beside : (held want : Want) → held.mode ≡ AccessShare → want.mode ≡ AccessShare → stands_in_way held want ≡ false
-beside held want a b = ap (λ (m : Mode). same_name held.table want.table && conflict m want.mode) a
-    ∙ ap (λ (m : Mode). same_name held.table want.table && conflict AccessShare m) b ∙ and_false (same_name held.table want.table)
-
-none-in-way : (held : Want) (asked : List Want) → held.mode ≡ AccessShare → Shares asked → list_any (stands_in_way held) asked ≡ false
-none-in-way held [] is share = refl
-none-in-way held (want ∷ asked) is share = rw (beside held want is share.0) (none-in-way held asked is share.1)
-
-none-conflict : (held asked : List Want) → Shares held → Shares asked → list_any (λ (lock : Want). list_any (stands_in_way lock) asked) held ≡ false
-none-conflict [] asked first second = refl
-none-conflict (lock ∷ held) asked first second = rw (none-in-way lock asked first.0 second) (none-conflict held asked first.1 second)
-
-module _ (history : History) (session : ℕ) (asked : List Want) (share : Shares asked) where
-  held-share : (other : ℕ) → Shares (held_locks (lock_state history) other)
-  held-share other =
-      shares-append (flat_map (wants_of history.world other) (opened_statements other history.events)) (sweep_locks (swept_by other history.events))
-      (all-share (wants_of history.world other) (opened_statements other history.events) (λ k. wants-share (statement_at history.world other k)))
-      (sweep-shares (swept_by other history.events))
-
-  unblocked : (others : List ℕ) → filter (λ (other : ℕ). not (other == session) && has_conflict (lock_state history) asked other) others ≡ []
-  unblocked [] = refl
-  unblocked (other ∷ others) =
-      let free : has_conflict (lock_state history) asked other ≡ false = none-conflict (held_locks (lock_state history) other) asked (held-share other) share in
-      let e : (not (other == session) && has_conflict (lock_state history) asked other) ≡ false =
-      ap (λ (b : Bool). not (other == session) && b) free ∙ and_false (not (other == session)) in
-      rw e (unblocked others)
-
-  none_blocks : blockers (lock_state history) session asked ≡ []
-  none_blocks = unblocked (range_with_len 0 (suc (session_count history.world)))
-
--- no session stands in the way of a statement, nor of a vacuum
-pub statement_unblocked : (history : History) (session statement : ℕ) → blockers (lock_state history) session (wants_of history.world session statement) ≡ []
-statement_unblocked history session statement =
-    none_blocks history session (wants_of history.world session statement) (wants-share (statement_at history.world session statement))
-
-pub sweep_unblocked : (history : History) (session : ℕ) (table : List ℕ) → blockers (lock_state history) session (sweep_lock table ∷ []) ≡ []
-sweep_unblocked history session table = none_blocks history session (sweep_lock table ∷ []) (refl, tt)
-
 -- ---- vacuums
 found_mirrored : {X : Type 0} (p : X → Bool) (g : ℕ → Bool) (xs : List X) (a : ℕ) → ((i : ℕ) (x : X) → slice_get xs i ≡ Some x → p x ≡ g (a + i))
     → position_from p a xs ≡ find g (range_with_len a (length xs))
@@ -258,18 +188,24 @@ module _ (events : List Event) (history : History) (summary : Summary) (stands :
   pub sweep_runs : (n : ℕ) → position (λ (kept : Session). kept.sweeps) summary.sessions.items ≡ Some n → Decides false (IsLegalSweep history session table)
   sweep_runs n is = refuted (λ legal. cc (sym is ∙ sweeper_is events history summary stands ∙ legal.0))
 
-  sweep_by : (found : Option Table) → map_of.get summary.database table ≡ found → position (λ (kept : Session). kept.sweeps) summary.sessions.items ≡ None
-      → Decides (is_some found) (IsLegalSweep history session table)
-  sweep_by None is none =
+  -- a lock stands in its way
+  pub sweep_blocked : (free : Bool) → Decides free (blockers (lock_state history) session (sweep_lock table ∷ []) ≡ []) → free ≡ false
+      → Decides false (IsLegalSweep history session table)
+  sweep_blocked free decides is = refuted (λ legal. false≢true (sym is ∙ decides.1 legal.1))
+
+  sweep_by : (found : Option Table) → map_of.get summary.database table ≡ found → blockers (lock_state history) session (sweep_lock table ∷ []) ≡ []
+      → position (λ (kept : Session). kept.sweeps) summary.sessions.items ≡ None → Decides (is_some found) (IsLegalSweep history session table)
+  sweep_by None is free none =
       refuted (λ legal. absent_none table (map_of.get (contents history) table) legal.2 (ap (λ (d : Tables). map_of.get d table) (sym stands.newest) ∙ is))
-  sweep_by (Some one) is none =
+  sweep_by (Some one) is free none =
       shown (
         sym (sweeper_is events history summary stands) ∙ none,
-        sweep_unblocked history session table,
+        free,
         ap (absent_refusal table) (ap (λ (d : Tables). map_of.get d table) (sym stands.newest) ∙ is),
       )
 
-  pub sweep_tested : (result : Bool) → result ≡ is_some (map_of.get summary.database table)
+  pub sweep_tested : (result free : Bool) → result ≡ is_some (map_of.get summary.database table)
+      → Decides free (blockers (lock_state history) session (sweep_lock table ∷ []) ≡ []) → free ≡ true
       → position (λ (kept : Session). kept.sweeps) summary.sessions.items ≡ None → Decides result (IsLegalSweep history session table)
-  sweep_tested result is none =
-      subst (λ (b : Bool). Decides b (IsLegalSweep history session table)) (sym is) (sweep_by (map_of.get summary.database table) refl none)
+  sweep_tested result free is decides so none =
+      subst (λ (b : Bool). Decides b (IsLegalSweep history session table)) (sym is) (sweep_by (map_of.get summary.database table) refl (decides.0 so) none)

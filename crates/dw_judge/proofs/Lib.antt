@@ -7,6 +7,9 @@ pub mod Happening
 pub mod Rest
 pub mod Violated
 pub mod Judged
+pub mod Locked
+pub mod Quiet
+pub mod Lasting
 pub mod Opened
 pub mod WaitTests
 pub mod RefusalTests

@@ -18,7 +18,7 @@ use Rattle.dw_journal.specs.History.{History, newest_event}
 use Rattle.dw_journal.specs.Transactions.{Transaction, transaction_of, written_in, commits}
 use Rattle.dw_journal.specs.Contents.{contents, view, view_in}
 use Rattle.dw_journal.specs.Routes.{can_take, cluster_or_main, has_written_none, is_open_on, is_select, may_leave, open_on, refreshed, route_of, shows}
-use Rattle.dw_journal.specs.Legal.{IsLegalOpened, snapshot_due, snapshot_in_or}
+use Rattle.dw_journal.specs.Legal.{IsLegalOpened, blockers_of, snapshot_due, snapshot_in_or}
 use Rattle.dw_judge.specs.declared.sessions.OpenOne.{OpenOne}
 use Rattle.dw_judge.specs.declared.sessions.Session.{Session}
 use Rattle.dw_judge.specs.declared.summaries.Summary.{Summary}
@@ -26,7 +26,7 @@ use Rattle.dw_judge.specs.Judging.{leaves_kept, route_kept, seen_in, snapshot_du
 use Rattle.dw_judge.specs.Readings.{is_kept_open_on}
 use Rattle.dw_judge.specs.Summaries.{HasOpen, IsKept, StandsFor}
 use Rattle.dw_judge.proofs.Happening.{commits_certified}
-use Rattle.dw_judge.proofs.Judged.{refuted, statement_unblocked, taken_is}
+use Rattle.dw_judge.proofs.Judged.{refuted, taken_is}
 
 -- ---- what a session sees
 seen_by : (history : History) (session : ℕ) (transaction : Option Transaction) (kept : Option OpenOne) (database : Tables) → HasOpen history session transaction kept
@@ -117,22 +117,28 @@ module _ (events : List Event) (history : History) (summary : Summary) (stands :
     none_bound None bound is so none = false≢true (sym so ∙ is)
     none_bound (Some refusal) bound is so none = cc
 
+    -- a lock stands in its way
+    pub opening_blocked : (free : Bool) → Decides free (blockers_of history session statement ≡ []) → free ≡ false
+        → Decides false (IsLegalOpened history session statement snapshot route (Some given))
+    opening_blocked free decides is = refuted (λ legal. false≢true (sym is ∙ decides.1 legal.0))
+
     pub opening_unbound : (bound : Bool) → bound ≡ not (is_some (bound_refusal given (def_of (seen_in summary.database kept.transaction)))) → bound ≡ false
         → Decides false (IsLegalOpened history session statement snapshot route (Some given))
     opening_unbound bound is so =
         refuted (λ legal. none_bound (bound_refusal given (def_of (seen_in summary.database kept.transaction))) bound is so
         (ap (λ (d : Tables). bound_refusal given (def_of d)) seen_is ∙ legal.1))
 
-    pub opening_decided : (count due : ℕ) (worked : Route) (bound result : Bool) → bound ≡ not (is_some (bound_refusal given (def_of (seen_in summary.database kept.transaction)))) → bound ≡ true
+    pub opening_decided : (free : Bool) → Decides free (blockers_of history session statement ≡ []) → free ≡ true
+        → (count due : ℕ) (worked : Route) (bound result : Bool) → bound ≡ not (is_some (bound_refusal given (def_of (seen_in summary.database kept.transaction)))) → bound ≡ true
         → count ≡ length summary.commits.items → due ≡ snapshot_due_in count kept.transaction
         → worked ≡ route_kept events history.shape (drop 1 summary.sessions.items) summary.stamps.items kept.transaction snapshot given
         → Decides result ((snapshot ≡ due) × (route ≡ worked)) → Decides result (IsLegalOpened history session statement snapshot route (Some given))
-    opening_decided count due worked bound result is_bound so counted due_is worked_is tested =
+    opening_decided free decides unblocked count due worked bound result is_bound so counted due_is worked_is tested =
         let none = bound_by (bound_refusal given (def_of (seen_in summary.database kept.transaction))) bound is_bound so in
         let all_due = due_is ∙ snapshot_due_is count counted in
         let all_worked = worked_is ∙ route_is snapshot given in (
           (λ is. let t = tested.0 is in
-              (statement_unblocked history session statement, sym (ap (λ (d : Tables). bound_refusal given (def_of d)) seen_is) ∙ none, t.0 ∙ all_due, t.1 ∙ all_worked)),
+              (decides.0 unblocked, sym (ap (λ (d : Tables). bound_refusal given (def_of d)) seen_is) ∙ none, t.0 ∙ all_due, t.1 ∙ all_worked)),
           (λ legal. tested.1 (legal.2 ∙ sym all_due, legal.3 ∙ sym all_worked)),
         )
 

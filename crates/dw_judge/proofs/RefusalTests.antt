@@ -28,8 +28,12 @@ use Rattle.dw_journal.specs.Blocks.{block_of}
 use Rattle.dw_journal.specs.Contents.{contents, view}
 use Rattle.dw_journal.specs.Transactions.{taken_of}
 use Rattle.dw_journal.specs.Vacuums.{sweeper}
+use Rattle.dw_journal.specs.Locks.{lock_state, wants_of}
 use Rattle.dw_journal.specs.Turns.{Call, IsForeign, Begins, Commits, RollsBack, Sweeps, Works, Turn, call_of, taking, turn_after, turn_of}
-use Rattle.dw_journal.specs.Legal.{IsCommitRefusal, IsRefusal, IsTakingRefusal, IsWorkRefusal, blockers_of, certified, cycle_of, high_by, lock_refusal, low_by, opening_refusal, sweep_refusal, table_refusal, unless_blocked, work_refusal}
+use Rattle.dw_journal.specs.Legal.{IsCommitRefusal, IsRefusal, IsTakingRefusal, IsWorkRefusal, blockers_of, certified, cycle_of, high_by, lock_refusal, low_by, opening_refusal, sweep_refusal, table_refusal, work_refusal}
+use Rattle.dw_locks.specs.declared.locks.Asked.{Asked}
+use Rattle.dw_locks.specs.LockTable.{LockTable, StandsForLocks}
+use Rattle.dw_locks.specs.Requests.{answer_by, answer_to}
 use Rattle.dw_commit.specs.declared.views.View.{View}
 use Rattle.dw_commit.specs.declared.work.Replied.{Replied}
 use Rattle.dw_commit.specs.declared.work.Replied.TheVariants.{Answered, Refused}
@@ -44,9 +48,11 @@ use Rattle.dw_judge.specs.Judging.{seen_in}
 use Rattle.dw_judge.specs.Readings.{newest_kept}
 use Rattle.dw_judge.specs.Summaries.{IsKept, StandsFor}
 use Rattle.dw_judge.specs.RefusedNext.{IsCommitKept, IsNextKept, IsRefusedBy, is_block_commit, is_refused_so, opening_kept}
+use Rattle.dw_judge.specs.Asking.{unless_asked}
 use Rattle.dw_judge.specs.Sames.{same_refusal}
 use Rattle.dw_judge.proofs.Following.{turn_is}
-use Rattle.dw_judge.proofs.Judged.{refuted, statement_unblocked, sweeper_is, taken_is}
+use Rattle.dw_judge.proofs.Judged.{refuted, sweeper_is, taken_is}
+use Rattle.dw_judge.proofs.Locked.{answer_told, unless_is}
 use Rattle.dw_judge.proofs.Opened.{seen_is}
 use Rattle.dw_judge.proofs.SameAnswers.{refusal-decides}
 
@@ -73,15 +79,16 @@ found-decides (Some one) refusal result tested =
     ((λ so. ap Some ((refusal-decides one refusal).0 (sym tested ∙ so))), (λ is. tested ∙ (refusal-decides one refusal).1 (cc is)))
 
 -- ---- the next statement
-unblocked_as : (found : List ℕ) (cycle : Option (List ℕ)) (refusal : Option Refusal) → found ≡ [] → unless_blocked found cycle refusal ≡ refusal
-unblocked_as found cycle refusal is = ap (λ (l : List ℕ). unless_blocked l cycle refusal) is
-
 module _ (history : History) (session k : ℕ) where
-  locks_none : (refusal : Option Refusal) → lock_refusal history session k refusal ≡ refusal
-  locks_none refusal = unblocked_as (blockers_of history session k) (cycle_of history session k) refusal (statement_unblocked history session k)
+  -- what the statement is answered for its locks, by the history
+  abbrev pub asked_here : Asked
+  asked_here = answer_by (blockers_of history session k) (cycle_of history session k)
+
+  locked_is : (refusal : Option Refusal) → unless_asked asked_here refusal ≡ lock_refusal history session k refusal
+  locked_is refusal = unless_is (blockers_of history session k) (cycle_of history session k) refusal
 
   abbrev pub kept : Call → BlockState → Option Refusal
-  kept call block = opening_kept (sweeper history) (contents history) (view history session) call block
+  kept call block = opening_kept (sweeper history) asked_here (contents history) (view history session) call block
 
   opening_is : (call : Call) (block : BlockState) → kept call block ≡ opening_refusal history session k call block
   opening_is (IsForeign refusal) block = refl
@@ -94,11 +101,11 @@ module _ (history : History) (session k : ℕ) where
   opening_is RollsBack Outside = refl
   opening_is RollsBack Within = refl
   opening_is RollsBack Aborted = refl
-  opening_is (Sweeps table) Outside = ap (sweep_refusal (sweeper history)) (sym (locks_none (table_refusal table (contents history))))
+  opening_is (Sweeps table) Outside = ap (sweep_refusal (sweeper history)) (locked_is (table_refusal table (contents history)))
   opening_is (Sweeps table) Within = refl
   opening_is (Sweeps table) Aborted = refl
-  opening_is (Works given) Outside = sym (locks_none (bound_refusal given (def_of (view history session))))
-  opening_is (Works given) Within = sym (locks_none (bound_refusal given (def_of (view history session))))
+  opening_is (Works given) Outside = locked_is (bound_refusal given (def_of (view history session)))
+  opening_is (Works given) Within = locked_is (bound_refusal given (def_of (view history session)))
   opening_is (Works given) Aborted = refl
 
   module _ (refusal : Refusal) where
@@ -148,11 +155,11 @@ work_seen files given found tables seen refusal result is same there =
     subst (λ (f : Option Statement). Decides result (IsWorkRefusal files f seen refusal)) there
     (subst (λ (t : Tables). Decides result (work_refusal given (alone files given t) ≡ Some refusal)) same is)
 
-pub next_unopened : (database seen : Tables) (swept : Option ℕ) (commits : List Certified) (transaction : Option OpenOne) (refusal : Refusal) (given : Given) (block : BlockState)
-    (found : Option Refusal) (result : Bool) → Decides result (found ≡ Some refusal) → found ≡ opening_kept swept database seen (call_of given) block
-    → is_block_commit (call_of given) block ≡ false → Decides result (IsNextKept database seen swept commits transaction refusal (Some given) block)
-next_unopened database seen swept commits transaction refusal given block found result is same other =
-    subst (λ (b : Bool). Decides result (IsRefusedBy b (IsCommitKept commits transaction refusal) (opening_kept swept database seen (call_of given) block) refusal)) (sym other)
+pub next_unopened : (database seen : Tables) (swept : Option ℕ) (asked : Asked) (commits : List Certified) (transaction : Option OpenOne) (refusal : Refusal) (given : Given) (block : BlockState)
+    (found : Option Refusal) (result : Bool) → Decides result (found ≡ Some refusal) → found ≡ opening_kept swept asked database seen (call_of given) block
+    → is_block_commit (call_of given) block ≡ false → Decides result (IsNextKept database seen swept asked commits transaction refusal (Some given) block)
+next_unopened database seen swept asked commits transaction refusal given block found result is same other =
+    subst (λ (b : Bool). Decides result (IsRefusedBy b (IsCommitKept commits transaction refusal) (opening_kept swept asked database seen (call_of given) block) refusal)) (sym other)
     (subst (λ (f : Option Refusal). Decides result (f ≡ Some refusal)) same is)
 
 pub if_ok : {E : Type 0} (P Q : Bool → Type 0) (result : Result Bool E) → ((b : Bool) → P b → Q b) → IfOk result P → IfOk result Q
@@ -198,25 +205,34 @@ module _ (events : List Event) (history : History) (summary : Summary) (stands :
       (subst (λ (t : Option Taken). Decides legal (commit_by (certified history) t)) took_is
       (subst (λ (c : List Certified). Decides legal (commit_by c took)) (ap reverse same ∙ stands.certified_are) so))
 
-  next_here : (k : ℕ) (given : Option Given) (legal : Bool)
-      → Decides legal (IsNextKept summary.database (seen_in summary.database kept.transaction) (position (λ (one : Session). one.sweeps) summary.sessions.items)
-      (reverse summary.commits.items) kept.transaction refusal given kept.block)
-      → Decides legal (IsNextHere history session k refusal given)
-  next_here k None legal so = so
-  next_here k (Some given) legal so =
-      let F = λ (d s : Tables) (w : Option ℕ) (b : BlockState) (c : List Certified) (t : Option Taken).
-      Decides legal (IsRefusedBy (is_block_commit (call_of given) b) (commit_by c t) (opening_kept w d s (call_of given) b) refusal) in
-      subst (λ (t : Option Taken). F (contents history) (view history session) (sweeper history) (block_of history session) (certified history) t) took_is
-      (subst (λ (c : List Certified). F (contents history) (view history session) (sweeper history) (block_of history session) c took) stands.certified_are
-      (subst (λ (b : BlockState). F (contents history) (view history session) (sweeper history) b (reverse summary.commits.items) took) is_kept.block
-      (subst (λ (w : Option ℕ). F (contents history) (view history session) w kept.block (reverse summary.commits.items) took) (sweeper_is events history summary stands)
-      (subst (λ (s : Tables). F (contents history) s (position (λ (one : Session). one.sweeps) summary.sessions.items) kept.block (reverse summary.commits.items) took) (seen_is events history summary stands session kept is_kept)
-      (subst (λ (d : Tables). F d (seen_in summary.database kept.transaction) (position (λ (one : Session). one.sweeps) summary.sessions.items) kept.block (reverse summary.commits.items) took) stands.newest so)))))
+  -- where a table stands for the locks
+  module _ (table : LockTable) (locked : StandsForLocks table (lock_state history)) where
+    abbrev asked_of : ℕ → Asked
+    asked_of k = answer_to table session (wants_of history.world session k)
 
-  pub refused_next : {E : Type 0} (statement k : ℕ) (result : Result Bool E) → due ≡ dues.Take k
-      → IfOk result (λ legal. Decides legal (IsNextKept summary.database (seen_in summary.database kept.transaction) (position (λ (one : Session). one.sweeps) summary.sessions.items)
-      (reverse summary.commits.items) kept.transaction refusal (given_at history.world session k) kept.block))
-      → IfOk result (λ legal. Decides legal (IsRefusal history session statement refusal (turn_of history session)))
-  refused_next statement k result is so =
-      if_ok _ _ result
-      (λ legal one. by_turn statement (dues.Take k) legal is (next_by history session k refusal statement (given_at history.world session k) legal (next_here k (given_at history.world session k) legal one))) so
+    next_here : (k : ℕ) (given : Option Given) (legal : Bool)
+        → Decides legal (IsNextKept summary.database (seen_in summary.database kept.transaction) (position (λ (one : Session). one.sweeps) summary.sessions.items) (asked_of k)
+        (reverse summary.commits.items) kept.transaction refusal given kept.block)
+        → Decides legal (IsNextHere history session k refusal given)
+    next_here k None legal so = so
+    next_here k (Some given) legal so =
+        let F = λ (a : Asked) (d s : Tables) (w : Option ℕ) (b : BlockState) (c : List Certified) (t : Option Taken).
+        Decides legal (IsRefusedBy (is_block_commit (call_of given) b) (commit_by c t) (opening_kept w a d s (call_of given) b) refusal) in
+        let here : Asked = asked_here history session k in
+        let swept = position (λ (one : Session). one.sweeps) summary.sessions.items in
+        subst (λ (t : Option Taken). F here (contents history) (view history session) (sweeper history) (block_of history session) (certified history) t) took_is
+        (subst (λ (c : List Certified). F here (contents history) (view history session) (sweeper history) (block_of history session) c took) stands.certified_are
+        (subst (λ (b : BlockState). F here (contents history) (view history session) (sweeper history) b (reverse summary.commits.items) took) is_kept.block
+        (subst (λ (w : Option ℕ). F here (contents history) (view history session) w kept.block (reverse summary.commits.items) took) (sweeper_is events history summary stands)
+        (subst (λ (s : Tables). F here (contents history) s swept kept.block (reverse summary.commits.items) took) (seen_is events history summary stands session kept is_kept)
+        (subst (λ (d : Tables). F here d (seen_in summary.database kept.transaction) swept kept.block (reverse summary.commits.items) took) stands.newest
+        (subst (λ (a : Asked). F a summary.database (seen_in summary.database kept.transaction) swept kept.block (reverse summary.commits.items) took)
+        (answer_told history table locked session (wants_of history.world session k)) so))))))
+
+    pub refused_next : {E : Type 0} (statement k : ℕ) (result : Result Bool E) → due ≡ dues.Take k
+        → IfOk result (λ legal. Decides legal (IsNextKept summary.database (seen_in summary.database kept.transaction) (position (λ (one : Session). one.sweeps) summary.sessions.items)
+        (asked_of k) (reverse summary.commits.items) kept.transaction refusal (given_at history.world session k) kept.block))
+        → IfOk result (λ legal. Decides legal (IsRefusal history session statement refusal (turn_of history session)))
+    refused_next statement k result is so =
+        if_ok _ _ result
+        (λ legal one. by_turn statement (dues.Take k) legal is (next_by history session k refusal statement (given_at history.world session k) legal (next_here k (given_at history.world session k) legal one))) so

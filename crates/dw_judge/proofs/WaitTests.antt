@@ -1,6 +1,6 @@
 -- A wait is legal exactly where the tests say so.
-use Rattle.std.proofs.Common.{◌≡◌, ℕ, Bool, true, false, List, [], ◌∷◌, length, get_or, inl, inr, refl, sym, ap, ◌∙◌, arith}
-use Rattle.std.specs.Prelude.{Option, Some, None, ◌&&◌, nat_eq, not}
+use Rattle.std.proofs.Common.{◌≡◌, ℕ, Bool, true, false, List, [], ◌∷◌, length, get_or, inl, inr, refl, sym, ap, subst, ◌∙◌, arith}
+use Rattle.std.specs.Prelude.{Option, Some, None, ◌&&◌, ◌⊎◌, nat_eq, not}
 use Rattle.std.specs.Bool.{Decides}
 use Rattle.std.proofs.lemmas.Bool.{eqb-true, eq-eqb, and_parts, and_from, false≢true}
 use Rattle.dw_model.specs.Binding.{same_name}
@@ -10,8 +10,8 @@ use Rattle.dw_journal.specs.History.{History, newest_event}
 use Rattle.dw_journal.specs.Vacuums.{sweeper}
 use Rattle.dw_journal.specs.Turns.{Call, IsForeign, Begins, Commits, RollsBack, Sweeps, Works, Turn, Nothing, AnswerOf, CommitOf, SliceOf, SweepEndOf, Taking, AtEnd, Idle, turn_of}
 use Rattle.dw_journal.specs.Legal.{IsLegalWait, IsLockWait, IsWaitOf}
-use Rattle.dw_judge.specs.Waiting.{calls_for_vacuum, is_same_wait, is_worker, takes_vacuum}
-use Rattle.dw_judge.proofs.Judged.{refuted, statement_unblocked}
+use Rattle.dw_judge.specs.Waiting.{is_same_wait, is_wait_by, takes_vacuum}
+use Rattle.dw_judge.proofs.Judged.{refuted}
 use Rattle.dw_judge.proofs.Same.{same_name-self, same_name-true}
 
 pub alone-decides : (holders : List ℕ) (first : ℕ) (result : Bool) → length holders ≡ 1 → first ≡ get_or holders 0 first → result ≡ nat_eq first 0
@@ -25,10 +25,6 @@ alone-decides (holder ∷ other ∷ holders) first result one here tested = absu
 
 pub not_alone : (holders : List ℕ) → (length holders ≡ 1 → ⊥) → Decides false (holders ≡ 0 ∷ [])
 not_alone holders more = refuted (λ is. more (ap length is))
-
-worker-true : (found : Option ℕ) → is_worker found ≡ true → found ≡ Some 0
-worker-true None is = absurd (false≢true is)
-worker-true (Some session) is = ap Some (eqb-true session 0 is)
 
 same_wait-true : (found : Option Event) (session statement : ℕ) (holders : List ℕ) → is_same_wait found session statement holders ≡ true
     → found ≡ Some (Wait session statement holders)
@@ -45,6 +41,9 @@ same_wait-self session statement holders =
     and_from (nat_eq session session && nat_eq statement statement) (same_name holders holders)
     (and_from (nat_eq session session) (nat_eq statement statement) (eq-eqb session session refl) (eq-eqb statement statement refl)) (same_name-self holders)
 
+some_same : (a b : ℕ) → Some a ≡ Some b → a ≡ b
+some_same a b is = cc
+
 not-true : (b : Bool) → not b ≡ true → b ≡ true → ⊥
 not-true true is so = false≢true is
 not-true false is so = false≢true so
@@ -54,59 +53,59 @@ not-from true no_way = absurd (no_way refl)
 not-from false no_way = refl
 
 module _ (history : History) (session statement : ℕ) (holders : List ℕ) where
-  -- nothing waits for a lock
-  no_lock_wait : IsLockWait history session statement holders → ⊥
-  no_lock_wait waits =
-      let none = ap length (waits.0 ∙ statement_unblocked history session statement) in
-      omega (arith, waits.1, none)
+  abbrev WaitsBeside : Option ℕ → Type 0
+  WaitsBeside swept = ((swept ≡ None) × IsLockWait history session statement holders) ⊎ ((swept ≡ Some 0) × (holders ≡ 0 ∷ []))
 
-  abbrev WaitsForWorker : Turn → Type 0
-  WaitsForWorker turn = (takes_vacuum turn ≡ true) × (sweeper history ≡ Some 0) × (holders ≡ 0 ∷ [])
-
-  wait_taken : (k : ℕ) (call : Call) → IsWaitOf history session statement holders (Taking k call) → WaitsForWorker (Taking k call)
-  wait_taken k (Sweeps table) (inl waits) = absurd (no_lock_wait waits.1)
-  wait_taken k (Sweeps table) (inr waits) = (refl, waits.0, waits.1)
-  wait_taken k (IsForeign refusal) waits = absurd (no_lock_wait waits)
-  wait_taken k Begins waits = absurd (no_lock_wait waits)
-  wait_taken k Commits waits = absurd (no_lock_wait waits)
-  wait_taken k RollsBack waits = absurd (no_lock_wait waits)
-  wait_taken k (Works given) waits = absurd (no_lock_wait waits)
-
-  waits_for_worker : (turn : Turn) → IsWaitOf history session statement holders turn → WaitsForWorker turn
-  waits_for_worker (Taking k call) waits = wait_taken k call waits
-  waits_for_worker Nothing waits = absurd (no_lock_wait waits)
-  waits_for_worker (AnswerOf k) waits = absurd (no_lock_wait waits)
-  waits_for_worker (CommitOf k) waits = absurd (no_lock_wait waits)
-  waits_for_worker (SliceOf k slice) waits = absurd (no_lock_wait waits)
-  waits_for_worker (SweepEndOf k) waits = absurd (no_lock_wait waits)
-  waits_for_worker AtEnd waits = absurd (no_lock_wait waits)
-  waits_for_worker Idle waits = absurd (no_lock_wait waits)
-
-  taken_waits : (k : ℕ) (call : Call) → calls_for_vacuum call ≡ true → sweeper history ≡ Some 0 → holders ≡ 0 ∷ [] → IsWaitOf history session statement holders (Taking k call)
-  taken_waits k (Sweeps table) is sweeps alone = inr (sweeps, alone)
-  taken_waits k call is sweeps alone = absurd (false≢true is)
-
-  worker_waits : (turn : Turn) → takes_vacuum turn ≡ true → sweeper history ≡ Some 0 → holders ≡ 0 ∷ [] → IsWaitOf history session statement holders turn
-  worker_waits (Taking k call) is sweeps alone = taken_waits k call is sweeps alone
-  worker_waits turn is sweeps alone = absurd (false≢true is)
-
-  pub wait_decided : (turn : Turn) (swept : Option ℕ) (last : Option Event) (takes sweeps alone again result : Bool) → turn ≡ turn_of history session
-      → takes ≡ takes_vacuum turn → swept ≡ sweeper history → sweeps ≡ is_worker swept → Decides alone (holders ≡ 0 ∷ [])
-      → last ≡ newest_event session history.events → again ≡ is_same_wait last session statement holders
-      → result ≡ ((takes && sweeps) && (alone && not again)) → Decides result (IsLegalWait history session statement holders)
-  wait_decided turn swept last takes sweeps alone again result turn_is takes_is swept_is sweeps_is alone_is last_is again_is tested = (
-    (λ is.
-        let outer = and_parts (takes && sweeps) (alone && not again) (sym tested ∙ is) in
-        let front = and_parts takes sweeps outer.0 in
-        let back = and_parts alone (not again) outer.1 in (
-          worker_waits (turn_of history session) (ap takes_vacuum (sym turn_is) ∙ sym takes_is ∙ front.0)
-              (sym swept_is ∙ worker-true swept (sym sweeps_is ∙ front.1)) (alone_is.0 back.0),
-          (λ repeats. not-true again back.1 (again_is ∙ ap (λ (e : Option Event). is_same_wait e session statement holders) (last_is ∙ repeats) ∙ same_wait-self session statement holders)),
-        )),
-    (λ legal.
-        let w = waits_for_worker (turn_of history session) legal.0 in
-        tested ∙ and_from (takes && sweeps) (alone && not again)
-        (and_from takes sweeps (takes_is ∙ ap takes_vacuum turn_is ∙ w.0) (sweeps_is ∙ ap is_worker (swept_is ∙ w.1)))
-        (and_from alone (not again) (alone_is.1 w.2)
-        (not-from again (λ so. legal.1 (sym last_is ∙ same_wait-true last session statement holders (sym again_is ∙ so)))))),
+  -- a VACUUM waits for its locks where no vacuum runs, and else for the background worker's
+  beside : (swept : Option ℕ) (alone waits : Bool) → Decides alone (holders ≡ 0 ∷ []) → Decides waits (IsLockWait history session statement holders)
+      → Decides (is_wait_by true swept alone waits) (WaitsBeside swept)
+  beside None alone waits alone_is waits_is =
+      ((λ is. inl (refl, waits_is.0 is)), (λ either. elim either [ inl by_locks ↦ waits_is.1 by_locks.1 | inr by_worker ↦ cc ]))
+  beside (Some other) alone waits alone_is waits_is = (
+    (λ is. let both = and_parts (nat_eq other 0) alone is in inr (ap Some (eqb-true other 0 both.0), alone_is.0 both.1)),
+    (λ either. elim either [
+      | inl by_locks ↦ cc
+      | inr by_worker ↦ and_from (nat_eq other 0) alone (eq-eqb other 0 (some_same other 0 by_worker.0)) (alone_is.1 by_worker.1)
+    ]),
   )
+
+  module _ (swept : Option ℕ) (swept_is : swept ≡ sweeper history) (alone waits : Bool) (alone_is : Decides alone (holders ≡ 0 ∷ []))
+      (waits_is : Decides waits (IsLockWait history session statement holders)) where
+    abbrev DecidesWait : Turn → Type 0
+    DecidesWait turn = Decides (is_wait_by (takes_vacuum turn) swept alone waits) (IsWaitOf history session statement holders turn)
+
+    taken_decides : (k : ℕ) (call : Call) → DecidesWait (Taking k call)
+    taken_decides k (Sweeps table) =
+        subst (λ (s : Option ℕ). Decides (is_wait_by true swept alone waits) (WaitsBeside s)) swept_is (beside swept alone waits alone_is waits_is)
+    taken_decides k (IsForeign refusal) = waits_is
+    taken_decides k Begins = waits_is
+    taken_decides k Commits = waits_is
+    taken_decides k RollsBack = waits_is
+    taken_decides k (Works given) = waits_is
+
+    turn_decides : (turn : Turn) → DecidesWait turn
+    turn_decides (Taking k call) = taken_decides k call
+    turn_decides Nothing = waits_is
+    turn_decides (AnswerOf k) = waits_is
+    turn_decides (CommitOf k) = waits_is
+    turn_decides (SliceOf k slice) = waits_is
+    turn_decides (SweepEndOf k) = waits_is
+    turn_decides AtEnd = waits_is
+    turn_decides Idle = waits_is
+
+    pub wait_decided : (turn : Turn) (last : Option Event) (takes again result : Bool) → turn ≡ turn_of history session
+        → takes ≡ takes_vacuum turn → last ≡ newest_event session history.events → again ≡ is_same_wait last session statement holders
+        → result ≡ (is_wait_by takes swept alone waits && not again) → Decides result (IsLegalWait history session statement holders)
+    wait_decided turn last takes again result turn_is takes_is last_is again_is tested =
+        let by : Decides (is_wait_by takes swept alone waits) (IsWaitOf history session statement holders (turn_of history session)) =
+        subst (λ (b : Bool). Decides (is_wait_by b swept alone waits) (IsWaitOf history session statement holders (turn_of history session)))
+        (sym (takes_is ∙ ap takes_vacuum turn_is)) (turn_decides (turn_of history session)) in (
+          (λ is.
+              let both = and_parts (is_wait_by takes swept alone waits) (not again) (sym tested ∙ is) in (
+                by.0 both.0,
+                (λ repeats. not-true again both.1 (again_is ∙ ap (λ (e : Option Event). is_same_wait e session statement holders) (last_is ∙ repeats) ∙ same_wait-self session statement holders)),
+              )),
+          (λ legal.
+              tested ∙ and_from (is_wait_by takes swept alone waits) (not again) (by.1 legal.0)
+              (not-from again (λ so. legal.1 (sym last_is ∙ same_wait-true last session statement holders (sym again_is ∙ so))))),
+        )

@@ -6,5 +6,7 @@ pub mod Summaries
 pub mod Changes
 pub mod Judging
 pub mod Waiting
+pub mod Asking
+pub mod Locking
 pub mod RefusedNext
 pub mod AnswersJudged

@@ -1,4 +1,4 @@
--- The refusals of the next statement, read off what is kept. No lock stands in its way.
+-- The refusals of the next statement, read off what is kept and what the table of locks answers it.
 use Rattle.std.specs.Prelude.{◌≡◌, ℕ, ◌<◌, Bool, true, false, List, Option, Some, None, option_map}
 use Rattle.dw_model.specs.declared.refusals.Refusal.{Refusal}
 use Rattle.dw_model.specs.declared.refusals.Refusal.TheVariants.{Aborted as AbortedRefusal, InBlock, Memory}
@@ -11,9 +11,11 @@ use Rattle.dw_journal.specs.declared.Given.{Given}
 use Rattle.dw_journal.specs.declared.Taken.{Taken}
 use Rattle.dw_journal.specs.Turns.{Call, IsForeign, Commits, Sweeps, Works, call_of}
 use Rattle.dw_journal.specs.Legal.{high_by, low_by, sweep_refusal, table_refusal}
+use Rattle.dw_locks.specs.declared.locks.Asked.{Asked}
 use Rattle.dw_commit.specs.declared.work.Replied.{Replied}
 use Rattle.dw_commit.specs.declared.work.Replied.TheVariants.{Answered, Refused}
 use Rattle.dw_judge.specs.declared.sessions.OpenOne.{OpenOne}
+use Rattle.dw_judge.specs.Asking.{unless_asked}
 use Rattle.dw_judge.specs.Sames.{same_refusal}
 
 -- the statement was refused with this refusal
@@ -26,14 +28,15 @@ abbrev pub is_block_commit : Call → BlockState → Bool
 is_block_commit Commits Within = true
 is_block_commit call block = false
 
--- the first refusal with which a statement isn't opened, where this vacuum runs
-abbrev pub opening_kept : Option ℕ → Tables → Tables → Call → BlockState → Option Refusal
-opening_kept swept database seen (IsForeign refusal) block = Some refusal
-opening_kept swept database seen call Aborted = Some AbortedRefusal
-opening_kept swept database seen (Sweeps table) Within = Some InBlock
-opening_kept swept database seen (Sweeps table) Outside = sweep_refusal swept (table_refusal table database)
-opening_kept swept database seen (Works given) block = bound_refusal given (def_of seen)
-opening_kept swept database seen call block = None
+-- the first refusal with which a statement isn't opened, where this vacuum runs and this is what it is answered for locks
+abbrev pub opening_kept : Option ℕ → Asked → Tables → Tables → Call → BlockState → Option Refusal
+opening_kept swept asked database seen (IsForeign refusal) block = Some refusal
+opening_kept swept asked database seen call Aborted = Some AbortedRefusal
+opening_kept swept asked database seen (Sweeps table) Within = Some InBlock
+opening_kept swept asked database seen (Sweeps table) Outside =
+    sweep_refusal swept (unless_asked asked (table_refusal table database))
+opening_kept swept asked database seen (Works given) block = unless_asked asked (bound_refusal given (def_of seen))
+opening_kept swept asked database seen call block = None
 
 -- what a transaction took, if one is open
 abbrev pub took : Option OpenOne → Option Taken
@@ -50,9 +53,9 @@ IsRefusedBy true commits opening refusal = commits
 IsRefusedBy false commits opening refusal = opening ≡ Some refusal
 
 -- the refusal of the next statement, if there is one
-abbrev pub IsNextKept : Tables → Tables → Option ℕ → List Certified → Option OpenOne → Refusal → Option Given
+abbrev pub IsNextKept : Tables → Tables → Option ℕ → Asked → List Certified → Option OpenOne → Refusal → Option Given
     → BlockState → Type 0
-IsNextKept database seen swept commits transaction refusal None block = ⊥
-IsNextKept database seen swept commits transaction refusal (Some given) block =
+IsNextKept database seen swept asked commits transaction refusal None block = ⊥
+IsNextKept database seen swept asked commits transaction refusal (Some given) block =
     IsRefusedBy (is_block_commit (call_of given) block) (IsCommitKept commits transaction refusal)
-    (opening_kept swept database seen (call_of given) block) refusal
+    (opening_kept swept asked database seen (call_of given) block) refusal

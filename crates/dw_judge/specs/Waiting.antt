@@ -15,10 +15,11 @@ abbrev pub takes_vacuum : Turn → Bool
 takes_vacuum (Taking k call) = calls_for_vacuum call
 takes_vacuum turn = false
 
--- this is the background worker
-abbrev pub is_worker : Option ℕ → Bool
-is_worker None = false
-is_worker (Some session) = nat_eq session 0
+-- A VACUUM, while a vacuum runs, waits for the background worker's alone; else what is to be taken waits for its locks.
+abbrev pub is_wait_by : Bool → Option ℕ → Bool → Bool → Bool
+is_wait_by false sweeper alone waits = waits
+is_wait_by true None alone waits = waits
+is_wait_by true (Some session) alone waits = nat_eq session 0 && alone
 
 -- this is the wait of this statement for these sessions
 abbrev pub is_same_wait : Option Event → ℕ → ℕ → List ℕ → Bool

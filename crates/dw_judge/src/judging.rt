@@ -3,6 +3,8 @@ ghost use Rattle.std.specs.Prelude.{◌≡◌, ◌<◌, ◌≤◌, ℕ, true, fa
 ghost use Rattle.dw_journal.specs.Worlds.{session_count};
 ghost use Rattle.dw_journal.specs.Follows.{FollowsAfter};
 ghost use Rattle.dw_journal.specs.History.{is_end};
+ghost use Rattle.dw_journal.specs.Locks.{lock_state};
+ghost use Rattle.dw_locks.specs.LockTable.{StandsForLocks};
 ghost use Rattle.dw_judge.specs.declared.sessions.Session.{Session as Kept};
 ghost use Rattle.dw_judge.specs.Changes.{IsJudged};
 ghost use Rattle.dw_judge.specs.Readings.{newest_kept};
@@ -11,6 +13,7 @@ ghost use Rattle.dw_judge.specs.Verdicts.{IsVerdict, history_before};
 
 use crate::follows::follows;
 use crate::legal::{is_legal_slice, is_legal_sweep, is_legal_violation};
+use crate::locking::keep_locks;
 use crate::openings::answer;
 use crate::refusing::is_legal_refusal;
 use crate::sessions::{Session, newest};
@@ -19,6 +22,7 @@ use crate::summaries::Summary;
 use crate::verdicts::Verdict;
 use crate::waits::is_legal_wait;
 use dw_journal::{Event, Journal, World};
+use dw_locks::Locks;
 use std::alloc::{AllocError, Global};
 
 /// The verdict on a journal beside its world, which has at most 64 scripts: that it is right, with the committed tables
@@ -33,6 +37,7 @@ pub fn judge(alloc: Global, world: &World, journal: &Journal) -> Result<Verdict,
         return Ok(Verdict::NotFollows { event: 0 });
     }
     let mut summary = Summary::new(alloc, sessions)?;
+    let mut locks = Locks::new(alloc, journal.shape.sessions)?;
     let events = journal.events.as_slice();
     for place in 0..events.len() {
         let event = &events[place];
@@ -41,12 +46,13 @@ pub fn judge(alloc: Global, world: &World, journal: &Journal) -> Result<Verdict,
                 event: place as u64 + 1,
             });
         }
-        let legal = step(alloc, world, journal, place, &mut summary, event)?;
+        let legal = step(alloc, world, journal, place, &mut summary, &locks, event)?;
         if !legal {
             return Ok(Verdict::NotLegal {
                 event: place as u64 + 1,
             });
         }
+        keep_locks(alloc, world, &mut locks, event)?;
     }
     match wanting(events, summary.sessions.as_slice()) {
         Some(_) => Ok(Verdict::NotFollows {
@@ -84,18 +90,21 @@ fn has_ended(events: &[Event], kept: &Session) -> bool
     }
 }
 
-/// Judges an event that follows. Where it is legal, the summary then stands for the history with it.
+/// Judges an event that follows, beside the locks that are held. Where it is legal, the summary then stands for the
+/// history with it.
 fn step(
     alloc: Global,
     world: &World,
     journal: &Journal,
     place: usize,
     summary: &mut Summary,
+    locks: &Locks,
     event: &Event,
 ) -> Result<bool, AllocError>
     requires few { session_count world.now ≤ 64 }
     requires here { slice_get journal.now.events place ≡ Some event.now }
     requires stands { StandsFor journal.now.events (history_before world.now journal.now place) summary.old }
+    requires locks { StandsForLocks locks.now (lock_state (history_before world.now journal.now place)) }
     requires follows { FollowsAfter (history_before world.now journal.now place) event.now }
     ensures { IfOk result (IsJudged journal.now.events (history_before world.now journal.now place) event.now
         summary.new) }
@@ -117,13 +126,15 @@ fn step(
             holders,
         } => {
             let legal = is_legal_wait(
-                world, journal, place, summary, *session, *statement, holders,
-            );
+                alloc, world, journal, place, summary, locks, *session, *statement, holders,
+            )?;
             go_on_if(legal, world, journal, place, summary, event, *session);
             Ok(legal)
         }
         Event::VacuumBegin { session, table, .. } => {
-            let legal = is_legal_sweep(world, journal, place, summary, *session, table);
+            let legal = is_legal_sweep(
+                alloc, world, journal, place, summary, locks, *session, table,
+            )?;
             go_on_if(legal, world, journal, place, summary, event, *session);
             Ok(legal)
         }
@@ -155,7 +166,7 @@ fn step(
             refusal,
         } => {
             let legal = is_legal_refusal(
-                alloc, world, journal, place, summary, *session, *statement, refusal,
+                alloc, world, journal, place, summary, locks, *session, *statement, refusal,
             )?;
             end_if(legal, world, journal, place, summary, event, *session);
             Ok(legal)
@@ -166,7 +177,8 @@ fn step(
             snapshot,
             route,
         } => open_if(
-            alloc, world, journal, place, summary, event, *session, *statement, *snapshot, *route,
+            alloc, world, journal, place, summary, locks, event, *session, *statement, *snapshot,
+            *route,
         ),
         Event::Answer {
             session,

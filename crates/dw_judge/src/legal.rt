@@ -1,5 +1,5 @@
 //! Whether an event that follows is legal, kind by kind.
-ghost use Rattle.std.specs.Prelude.{◌≡◌, ◌<◌, ◌≤◌, ◌+◌, ◌^◌, false, length, slice_get, vec_len, reverse, Option as Optional, is_some};
+ghost use Rattle.std.specs.Prelude.{◌≡◌, ◌<◌, ◌≤◌, ◌+◌, ◌^◌, false, length, slice_get, vec_len, reverse, Option as Optional, is_some, IfOk};
 ghost use Rattle.std.specs.FinMap as map;
 ghost use Rattle.std.specs.Bool.{Decides};
 ghost use Rattle.std.specs.Option.{option_copied, option_map_or};
@@ -7,18 +7,23 @@ ghost use Rattle.dw_model.specs.Objects.{same_object};
 ghost use Rattle.dw_journal.specs.Worlds.{statement_at};
 ghost use Rattle.dw_journal.specs.Watermarks.{low_watermark, violated_object};
 ghost use Rattle.dw_journal.specs.Contents.{view};
+ghost use Rattle.dw_journal.specs.Locks.{lock_state};
 ghost use Rattle.dw_journal.specs.Routes.{route_of};
 ghost use Rattle.dw_journal.specs.Legal.{IsLegalCommit, IsLegalOpened, IsLegalRefresh, IsLegalSlice, IsLegalSweep, IsLegalViolation, IsLegalWait, snapshot_due};
+ghost use Rattle.dw_locks.specs.LockTable.{StandsForLocks};
 ghost use Rattle.dw_judge.specs.Judging.{are_marks, are_violating, is_refresh_of};
 ghost use Rattle.dw_judge.specs.Summaries.{StandsFor};
 ghost use Rattle.dw_judge.specs.Verdicts.{history_before};
 
+use crate::asking::is_free_to_sweep;
 use crate::marks::{Bounds, bounds_over};
 use crate::summaries::{Summary, sweeper_of};
 use crate::violations::violated_place;
 use dw_journal::{Certified, Journal, Taken, World};
+use dw_locks::Locks;
 use dw_model::{Database, Object};
 use dw_value::Text;
+use std::alloc::{AllocError, Global};
 
 /// Whether the commit is legal: its stamp is the next one, its watermarks are the transaction's, and the low one is
 /// above the high one.
@@ -153,25 +158,33 @@ fn is_refresh(clusters: u32, count: u64, cluster: u32, stamp: u64) -> bool
     1 <= cluster && cluster <= clusters && stamp == count
 }
 
-/// Whether a vacuum of this table may begin: none runs, and the table is among the committed ones. No lock can stand in
-/// its way.
+/// Whether a vacuum of this table may begin: none runs, no lock stands in its way, and the table is among the committed
+/// ones.
 pub(crate) fn is_legal_sweep(
+    alloc: Global,
     world: &World,
     journal: &Journal,
     place: usize,
     summary: &Summary,
+    locks: &Locks,
     session: u32,
     table: &Text,
-) -> bool
+) -> Result<bool, AllocError>
     requires stands { StandsFor journal.now.events (history_before world.now journal.now place) summary.now }
-    ensures { Decides result (IsLegalSweep (history_before world.now journal.now place) session table.now) }
+    requires within { session < vec_len summary.now.sessions }
+    requires locks { StandsForLocks locks.now (lock_state (history_before world.now journal.now place)) }
+    ensures { IfOk result (λ legal. Decides legal
+        (IsLegalSweep (history_before world.now journal.now place) session table.now)) }
 {
     let _scripts = &world.scripts;
     let _events = &journal.events;
-    let _session = session;
+    let free = is_free_to_sweep(alloc, locks, session, table)?;
+    if !free {
+        return Ok(false);
+    }
     match sweeper_of(summary.sessions.as_slice()) {
-        Some(_) => false,
-        None => has_table(&summary.database, table),
+        Some(_) => Ok(false),
+        None => Ok(has_table(&summary.database, table)),
     }
 }
 

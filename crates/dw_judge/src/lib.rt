@@ -4,11 +4,13 @@
 #![tactic(auto)]
 
 mod answering;
+mod asking;
 mod dues;
 mod follows;
 mod happened;
 mod judging;
 mod legal;
+mod locking;
 mod marks;
 mod moves;
 mod objects;

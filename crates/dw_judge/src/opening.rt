@@ -6,19 +6,23 @@ ghost use Rattle.dw_model.specs.Bound.{bound_refusal};
 ghost use Rattle.dw_model.specs.Databases.{def_of};
 ghost use Rattle.dw_journal.specs.declared.Route.TheVariants as route;
 ghost use Rattle.dw_journal.specs.Worlds.{statement_at};
+ghost use Rattle.dw_journal.specs.Locks.{lock_state};
 ghost use Rattle.dw_journal.specs.Routes.{is_select, shows};
 ghost use Rattle.dw_journal.specs.Legal.{IsLegalOpened};
+ghost use Rattle.dw_locks.specs.LockTable.{StandsForLocks};
 ghost use Rattle.dw_judge.specs.Judging.{leaves_kept, route_kept, seen_in, snapshot_due_in, takes_kept, written_none_in};
 ghost use Rattle.dw_judge.specs.Summaries.{StandsFor, stamp_kept};
 ghost use Rattle.dw_judge.specs.Verdicts.{history_before};
 
-use crate::scripts::statement_at;
+use crate::asking::is_free;
+use crate::scripts::{given, statement_at};
 use crate::sessions::Session;
 use crate::summaries::{Summary, is_same_route, open_on};
 use dw_journal::{Event, Journal, Route, World};
+use dw_locks::Locks;
 use dw_model::{Database, Statement};
 use dw_plain::bound_refusal;
-use std::alloc::AllocError;
+use std::alloc::{AllocError, Global};
 
 /// What a session sees: its view, or the committed database.
 pub(crate) fn seen<'a>(database: &'a Database, kept: &'a Session) -> &'a Database
@@ -40,13 +44,15 @@ fn snapshot_due(kept: &Session, commits: u64) -> u64
     }
 }
 
-/// Whether the opening is legal: the names are bound in what the session sees, and snapshot and route are the due ones.
-/// No lock can stand in its way.
+/// Whether the opening is legal: no lock stands in its way, the names are bound in what the session sees, and snapshot
+/// and route are the due ones.
 pub(crate) fn is_legal_opened(
+    alloc: Global,
     world: &World,
     journal: &Journal,
     place: usize,
     summary: &Summary,
+    locks: &Locks,
     session: u32,
     statement: u32,
     snapshot: u64,
@@ -54,12 +60,17 @@ pub(crate) fn is_legal_opened(
 ) -> Result<bool, AllocError>
     requires stands { StandsFor journal.now.events (history_before world.now journal.now place) summary.now }
     requires within { session < vec_len summary.now.sessions }
+    requires locks { StandsForLocks locks.now (lock_state (history_before world.now journal.now place)) }
     ensures { IfOk result (λ legal. Decides legal (IsLegalOpened (history_before world.now journal.now place) session
         statement snapshot route (statement_at world.now session statement))) }
 {
     let Some(opened) = statement_at(world, session, statement as u64) else {
         return Ok(false);
     };
+    let free = is_free(alloc, locks, session, given(world, session, statement as u64))?;
+    if !free {
+        return Ok(false);
+    }
     let kept = &summary.sessions[session as usize];
     let bound = is_bound(opened, seen(&summary.database, kept))?;
     if !bound {

@@ -3,7 +3,9 @@ ghost use Rattle.std.specs.Prelude.{◌≡◌, ◌<◌, ◌≤◌, slice_get, ve
 ghost use Rattle.std.specs.Bool.{Decides};
 ghost use Rattle.dw_journal.specs.declared.Event.TheVariants as kinds;
 ghost use Rattle.dw_journal.specs.History.{session_of};
+ghost use Rattle.dw_journal.specs.Locks.{lock_state};
 ghost use Rattle.dw_journal.specs.Legal.{IsLegalAfter};
+ghost use Rattle.dw_locks.specs.LockTable.{StandsForLocks};
 ghost use Rattle.dw_judge.specs.Changes.{EndsTransaction, IsJudged, LeavesTransaction};
 ghost use Rattle.dw_judge.specs.Summaries.{StandsFor};
 ghost use Rattle.dw_judge.specs.Verdicts.{history_before};
@@ -16,6 +18,7 @@ use crate::refreshing::refresh;
 use crate::scripts::statement_at;
 use crate::summaries::Summary;
 use dw_journal::{Event, Journal, Route, World};
+use dw_locks::Locks;
 use std::alloc::{AllocError, Global};
 
 /// An event that leaves its session's transaction as it is has happened, if it is legal.
@@ -71,6 +74,7 @@ pub(crate) fn open_if(
     journal: &Journal,
     place: usize,
     summary: &mut Summary,
+    locks: &Locks,
     event: &Event,
     session: u32,
     statement: u32,
@@ -80,12 +84,13 @@ pub(crate) fn open_if(
     requires is { event.now ≡ kinds.Opened session statement snapshot route }
     requires here { slice_get journal.now.events place ≡ Some event.now }
     requires within { session < vec_len summary.old.sessions }
+    requires locks { StandsForLocks locks.now (lock_state (history_before world.now journal.now place)) }
     requires stands { StandsFor journal.now.events (history_before world.now journal.now place) summary.old }
     ensures { IfOk result (IsJudged journal.now.events (history_before world.now journal.now place) event.now
         summary.new) }
 {
     let legal = is_legal_opened(
-        world, journal, place, summary, session, statement, snapshot, route,
+        alloc, world, journal, place, summary, locks, session, statement, snapshot, route,
     )?;
     if !legal {
         return Ok(false);

@@ -17,9 +17,36 @@ begin; select b; insert a; commit";
 const VACUUM: &str =
     "open 1 1 0, created 1 1, commit 1 1 1 1 0, vacuum 1 2 t, slice 1 2 0 1, slice 1 2 1 1, slice 1 2 2 1";
 
+/// A block that inserts into a table, and another INSERT into it.
+const INSERTS: &str = "create t; begin; insert t; commit
+insert t";
+
+/// The events of that block up to its end, which holds a lock in the other's way.
+const HOLDS: &str =
+    "open 1 1 0, created 1 1, commit 1 1 1 1 0, begin 1 2, open 1 3 1, inserted 1 3";
+
+/// Two blocks that read a table, and one who drops it.
+const READERS: &str = "create t; begin; select t; commit
+begin; select t; commit
+drop t";
+
+const READ: &str =
+    "open 1 1 0, created 1 1, commit 1 1 1 1 0, begin 1 2, open 1 3 1, none 1 3, begin 2 1, open 2 2 1, none 2 2";
+
+/// Two blocks that lock two tables, each in its own order.
+const LOCKERS: &str = "create t; create u; begin; lock t; lock u; commit
+begin; lock u; lock t; commit";
+
+const CROSSED: &str =
+    "open 1 1 0, created 1 1, commit 1 1 1 1 0, open 1 2 1, created 1 2, commit 1 2 2 2 0, begin 1 3, begin 2 1
+open 1 4 2, locked 1 4, open 2 2 2, locked 2 2, wait 1 5 2";
+
+const LOCKED: &str =
+    "open 1 1 0, created 1 1, commit 1 1 1 1 0, begin 1 2, open 1 3 1, locked 1 3";
+
 /// Scripts, one on each line; the number of sessions in the shape; the first events and those after them; and the
 /// verdict.
-const JUDGED: [(&str, u32, &str, &str, &str); 17] = [
+const JUDGED: [(&str, u32, &str, &str, &str); 38] = [
     ("-", 1, "end 1", "", "passes"),
     ("-", 1, "", "", "not follows 0"),
     ("-", 2, "end 1", "", "not follows 0"),
@@ -91,6 +118,116 @@ const JUDGED: [(&str, u32, &str, &str, &str); 17] = [
         "not legal 4",
     ),
     ("vacuum t", 1, "refresh 2 0", "", "not legal 1"),
+    (
+        INSERTS,
+        2,
+        HOLDS,
+        "wait 2 1 1, commit 1 4 2 2 1, open 2 1 2, inserted 2 1, commit 2 1 3 3 2, end 1, end 2",
+        "passes",
+    ),
+    (INSERTS, 2, HOLDS, "wait 2 1 1, wait 2 1 1", "not legal 8"),
+    (INSERTS, 2, HOLDS, "wait 2 1 2", "not legal 7"),
+    (INSERTS, 2, HOLDS, "wait 2 1", "not legal 7"),
+    (INSERTS, 2, HOLDS, "open 2 1 1", "not legal 7"),
+    (
+        INSERTS,
+        2,
+        HOLDS,
+        "commit 1 4 2 2 1, wait 2 1 1",
+        "not legal 8",
+    ),
+    (
+        "create t; begin; insert t; rollback
+insert t",
+        2,
+        HOLDS,
+        "wait 2 1 1, rollback 1 4, open 2 1 1, inserted 2 1, commit 2 1 2 2 1, end 1, end 2",
+        "passes",
+    ),
+    (
+        "create t; begin; insert t; select u
+insert t",
+        2,
+        HOLDS,
+        "wait 2 1 1, unknown 1 4 u, open 2 1 1, inserted 2 1, commit 2 1 2 2 1, end 1, end 2",
+        "passes",
+    ),
+    (
+        "create t; begin; insert t
+insert t",
+        2,
+        HOLDS,
+        "wait 2 1 1, end 1, open 2 1 1, inserted 2 1, commit 2 1 2 2 1, end 2",
+        "passes",
+    ),
+    (
+        "create a; create b; begin; select a; insert b; commit
+begin; select b; insert a; commit
+insert a",
+        3,
+        SKEW,
+        "wait 3 1 2, commit 1 6 3 3 2, violation 2 4 3 3 b, open 3 1 3, inserted 3 1, commit 3 1 4 4 3, end 1, end 2, end 3",
+        "passes",
+    ),
+    (
+        "create t; begin; select t; commit
+insert t",
+        2,
+        "open 1 1 0, created 1 1, commit 1 1 1 1 0, begin 1 2, open 1 3 1, none 1 3",
+        "open 2 1 1, inserted 2 1, commit 2 1 2 2 1, commit 1 4 3 2 1, end 1, end 2",
+        "passes",
+    ),
+    (
+        READERS,
+        3,
+        READ,
+        "wait 3 1 1 2, commit 1 4 2 2 1, wait 3 1 2, commit 2 3 3 3 1, open 3 1 3, dropped 3 1, commit 3 1 4 4 3
+end 1, end 2, end 3",
+        "passes",
+    ),
+    (READERS, 3, READ, "wait 3 1 2 1", "not legal 10"),
+    (READERS, 3, READ, "wait 3 1 1", "not legal 10"),
+    (
+        LOCKERS,
+        2,
+        CROSSED,
+        "deadlock 2 3 2 1, open 1 5 2, locked 1 5, commit 1 6 3 3 2, rollback 2 4, end 1, end 2",
+        "passes",
+    ),
+    (LOCKERS, 2, CROSSED, "deadlock 2 3 1 2", "not legal 14"),
+    (LOCKERS, 2, CROSSED, "wait 2 3 1", "not legal 14"),
+    (
+        "create t; begin; lock t; commit
+vacuum t",
+        2,
+        LOCKED,
+        "vacuum 2 1 t",
+        "not legal 7",
+    ),
+    (
+        "create t; begin; lock t; commit
+vacuum t",
+        2,
+        LOCKED,
+        "wait 2 1 1, commit 1 4 2 2 1, vacuum 2 1 t, slice 2 1 0 1",
+        "not legal 10",
+    ),
+    (
+        "create t; vacuum t
+drop t",
+        2,
+        VACUUM,
+        "open 2 1 1",
+        "not legal 8",
+    ),
+    (
+        "create t; vacuum t
+drop t",
+        2,
+        VACUUM,
+        "wait 2 1 1, slice 1 2 3 1, swept 1 2, open 2 1 1, dropped 2 1, commit 2 1 2 2 1, end 1, end 2",
+        "passes",
+    ),
 ];
 
 fn statement(alloc: Global, text: &str) -> Result<Statement, AllocError> {
@@ -101,6 +238,13 @@ fn statement(alloc: Global, text: &str) -> Result<Statement, AllocError> {
     Ok(match form {
         "begin" => Statement::Begin,
         "commit" => Statement::Commit,
+        "rollback" => Statement::Rollback,
+        "drop" => Statement::Drop { table },
+        "lock" => {
+            let mut tables = List::new(alloc);
+            tables.push(table)?;
+            Statement::Lock { tables }
+        }
         "vacuum" => Statement::Vacuum { table },
         "create" => {
             let mut columns = List::new(alloc);
@@ -164,6 +308,12 @@ fn reply(alloc: Global, form: &str) -> Result<Answer, AllocError> {
         "created" => Answer::Plain {
             word: Word::CreateTable,
         },
+        "dropped" => Answer::Plain {
+            word: Word::DropTable,
+        },
+        "locked" => Answer::Plain {
+            word: Word::LockTable,
+        },
         "inserted" => Answer::Count {
             word: Word::Insert,
             count: 1,
@@ -180,6 +330,15 @@ fn reply(alloc: Global, form: &str) -> Result<Answer, AllocError> {
     })
 }
 
+/// The sessions after a text's first three words.
+fn sessions(alloc: Global, text: &str) -> Result<List<u32>, AllocError> {
+    let mut sessions = List::new(alloc);
+    for word in text.split_whitespace().skip(3) {
+        sessions.push(small(Some(word)))?;
+    }
+    Ok(sessions)
+}
+
 fn event(alloc: Global, text: &str) -> Result<Event, AllocError> {
     let mut words = text.split_whitespace();
     let form = words.next().unwrap_or("");
@@ -194,7 +353,27 @@ fn event(alloc: Global, text: &str) -> Result<Event, AllocError> {
             snapshot: number(words.next()),
             route: Route::Main,
         },
-        "created" | "inserted" | "none" => Event::Answer {
+        "wait" => Event::Wait {
+            session,
+            statement,
+            holders: sessions(alloc, text)?,
+        },
+        "rollback" => Event::Rollback { session, statement },
+        "deadlock" => Event::Refuse {
+            session,
+            statement,
+            refusal: Refusal::Deadlock {
+                cycle: sessions(alloc, text)?,
+            },
+        },
+        "unknown" => Event::Refuse {
+            session,
+            statement,
+            refusal: Refusal::Unknown {
+                name: Text::from_str(alloc, words.next().unwrap_or(""))?,
+            },
+        },
+        "created" | "inserted" | "none" | "dropped" | "locked" => Event::Answer {
             session,
             statement,
             answer: reply(alloc, form)?,

@@ -1,55 +1,77 @@
 //! Whether a wait is legal.
-ghost use Rattle.std.specs.Prelude.{◌≡◌, ◌<◌, ◌&&◌, not, nat_eq, [], ◌∷◌, vec_len, Option as Optional, Some};
+ghost use Rattle.std.specs.Prelude.{◌≡◌, ◌<◌, ◌&&◌, not, [], ◌∷◌, vec_len, Some, IfOk};
 ghost use Rattle.std.specs.Bool.{Decides};
 ghost use Rattle.std.specs.Option.{option_copied};
+ghost use Rattle.dw_journal.specs.Locks.{lock_state};
 ghost use Rattle.dw_journal.specs.Turns.{call_of};
 ghost use Rattle.dw_journal.specs.Legal.{IsLegalWait};
+ghost use Rattle.dw_locks.specs.LockTable.{StandsForLocks};
 ghost use Rattle.dw_judge.specs.Dues.{turn_kept};
 ghost use Rattle.dw_judge.specs.Summaries.{StandsFor};
 ghost use Rattle.dw_judge.specs.Verdicts.{history_before};
-ghost use Rattle.dw_judge.specs.Waiting.{calls_for_vacuum, is_same_wait, is_worker, takes_vacuum};
+ghost use Rattle.dw_judge.specs.Waiting.{calls_for_vacuum, is_same_wait, is_wait_by, takes_vacuum};
 
+use crate::asking::has_to_wait;
 use crate::dues::Due;
 use crate::follows::due_kept;
 use crate::scripts::given;
 use crate::sessions::newest;
 use crate::summaries::{Summary, sweeper_of};
 use dw_journal::{Event, Given, Journal, World};
+use dw_locks::Locks;
 use dw_model::Statement;
 use dw_value::List;
+use std::alloc::{AllocError, Global};
 
-/// Whether the wait is legal: it is of a VACUUM, while that of the background worker runs, and it isn't told twice in a
-/// row. Nothing waits for a lock, since no two locks that statements want stand in each other's way.
+/// Whether the wait is legal: the statement has to wait for just these holders of locks in its way, or it is a VACUUM's,
+/// while that of the background worker runs, and it isn't told twice in a row.
 pub(crate) fn is_legal_wait(
+    alloc: Global,
     world: &World,
     journal: &Journal,
     place: usize,
     summary: &Summary,
+    locks: &Locks,
     session: u32,
     statement: u32,
     holders: &List<u32>,
-) -> bool
+) -> Result<bool, AllocError>
+    requires locks { StandsForLocks locks.now (lock_state (history_before world.now journal.now place)) }
     requires stands { StandsFor journal.now.events (history_before world.now journal.now place) summary.now }
     requires within { session < vec_len summary.now.sessions }
-    ensures { Decides result
-        (IsLegalWait (history_before world.now journal.now place) session statement holders.now) }
+    ensures { IfOk result (λ legal. Decides legal
+        (IsLegalWait (history_before world.now journal.now place) session statement holders.now)) }
 {
     let kept = &summary.sessions[session as usize];
     let due = due_kept(world, journal, session, kept);
     let takes = takes_vacuum(world, session, due);
     let sweeper = sweeper_of(summary.sessions.as_slice());
-    let sweeps = is_worker(sweeper);
     let alone = is_worker_alone(holders);
     let last = newest(journal.events.as_slice(), kept.newest);
     let again = is_same_wait(last, session, statement, holders);
-    is_wait_due(takes, sweeps, alone, again)
+    let given = given(world, session, statement as u64);
+    let waits = has_to_wait(alloc, locks, session, given, holders)?;
+    Ok(is_wait_due(takes, sweeper, alone, waits, again))
 }
 
-/// Whether all of these hold but the last.
-fn is_wait_due(takes: bool, sweeps: bool, alone: bool, again: bool) -> bool
-    ensures { result ≡ ((takes && sweeps) && (alone && not again)) }
+/// Whether a wait is due, by whether a VACUUM is taken and whose vacuum runs, and isn't told again.
+fn is_wait_due(takes: bool, sweeper: Option<usize>, alone: bool, waits: bool, again: bool) -> bool
+    ensures { result ≡ (is_wait_by takes sweeper alone waits && not again) }
 {
-    takes && sweeps && (alone && !again)
+    is_wait_by(takes, sweeper, alone, waits) && !again
+}
+
+/// Whether a wait is for those that it has to be for.
+fn is_wait_by(takes: bool, sweeper: Option<usize>, alone: bool, waits: bool) -> bool
+    ensures { result ≡ is_wait_by takes sweeper alone waits }
+{
+    if !takes {
+        return waits;
+    }
+    match sweeper {
+        Some(session) => session == 0 && alone,
+        None => waits,
+    }
 }
 
 /// Whether a VACUUM is to be taken.
@@ -74,16 +96,6 @@ fn calls_for_vacuum(given: &Given) -> bool
             Statement::Vacuum { .. } => true,
             _ => false,
         },
-    }
-}
-
-/// Whether this is the background worker.
-fn is_worker(session: Option<usize>) -> bool
-    ensures { result ≡ is_worker session }
-{
-    match session {
-        Some(session) => session == 0,
-        None => false,
     }
 }
 

@@ -1,7 +1,7 @@
 //! The table of locks.
 ghost use Rattle.std.specs.Prelude.{◌≡◌, ◌+◌, ◌<◌, ◌↔◌, length, nat_eq, replicate, IfOk, IsSome, IsTrue, OnOk, OnErr};
 ghost use Rattle.std.specs.List.{slice_set};
-ghost use Rattle.dw_locks.specs.LockTable.{entry_of, exclusive_holder, free_entry, withdrawn};
+ghost use Rattle.dw_locks.specs.LockTable.{entry_of, exclusive_holder, free_entry, waiting, withdrawn};
 ghost use Rattle.dw_locks.specs.Requests.{answer_to, table_after};
 
 use crate::blockers::{blockers, cycle, exclusive_holder};
@@ -111,6 +111,17 @@ impl Locks {
             Asked::Deadlock { .. } => {}
         }
         Ok(asked)
+    }
+
+    /// The session waits for these locks, in place of what it waited for, whether or not one stands in their way. Where
+    /// memory runs out, nothing changes.
+    pub fn wait(&mut self, session: u32, wants: &List<Want>) -> Result<(), AllocError>
+        requires { session < length self.old }
+        ensures table { OnOk result
+            (self.new ≡ slice_set self.old session (waiting wants.now (entry_of self.old session))) }
+        ensures err { OnErr result (self.new ≡ self.old) }
+    {
+        self.entries[session as usize].wait(wants.as_slice())
     }
 
     /// The session holds nothing more, and waits for nothing. All others are as before.

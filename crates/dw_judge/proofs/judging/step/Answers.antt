@@ -5,8 +5,8 @@ use Rattle.dw_judge.specs.Verdicts.{history_before}
 use Rattle.dw_judge.proofs.Following.{in_list}
 use Rattle.dw_judge.proofs.judging.step.Goals as goal
 
-pub is_legal_wait-legal-requires-clause-within : goal.is_legal_wait-legal-requires-clause-within
-is_legal_wait-legal-requires-clause-within c =
+pub is_legal_wait-requires-clause-within : goal.is_legal_wait-requires-clause-within
+is_legal_wait-requires-clause-within c =
     let history : History = history_before c.args.world.now c.args.journal.now c.args.place in
     let own : session_of c.args.event.now ≡ Some c.in-Wait.session = ap session_of c.in-Wait.is in
     omega (arith, in_list c.args.journal.now.events history c.args.summary.now c.requires.stands c.args.event.now c.in-Wait.session own c.requires.follows)
@@ -19,6 +19,12 @@ go_on_if-requires-clause-within c =
 
 pub go_on_if-requires-in-VacuumBegin-clause-within : goal.go_on_if-requires-in-VacuumBegin-clause-within
 go_on_if-requires-in-VacuumBegin-clause-within c =
+    let history : History = history_before c.args.world.now c.args.journal.now c.args.place in
+    let own : session_of c.args.event.now ≡ Some c.in-VacuumBegin.session = ap session_of c.in-VacuumBegin.is in
+    omega (arith, in_list c.args.journal.now.events history c.args.summary.now c.requires.stands c.args.event.now c.in-VacuumBegin.session own c.requires.follows)
+
+pub is_legal_sweep-requires-clause-within : goal.is_legal_sweep-requires-clause-within
+is_legal_sweep-requires-clause-within c =
     let history : History = history_before c.args.world.now c.args.journal.now c.args.place in
     let own : session_of c.args.event.now ≡ Some c.in-VacuumBegin.session = ap session_of c.in-VacuumBegin.is in
     omega (arith, in_list c.args.journal.now.events history c.args.summary.now c.requires.stands c.args.event.now c.in-VacuumBegin.session own c.requires.follows)

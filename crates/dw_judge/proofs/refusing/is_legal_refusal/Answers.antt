@@ -28,6 +28,9 @@ returns-in-Commit c =
     let is_kept = kept_at events history summary c.requires.stands session session kept refl in_list c.index-kept.ensures in
     refused_commit events history summary c.requires.stands session kept is_kept c.args.refusal.now c.due_kept-due.result c.due_kept-due.ensures c.args.statement c.in-Commit.field-0 c.as_slice.result.now c.is_commit_refusal.result c.in-Commit.is c.as_slice.ensures.value c.is_commit_refusal.ensures
 
+pub is_next_refusal-requires-clause-entry : goal.is_next_refusal-requires-clause-entry
+is_next_refusal-requires-clause-entry c = omega (arith, c.requires.within, c.requires.stands.number, c.requires.locks.counted)
+
 pub returns-in-Take : goal.returns-in-Take
 returns-in-Take c =
     let history : History = history_before c.args.world.now c.args.journal.now c.args.place in
@@ -37,7 +40,7 @@ returns-in-Take c =
     let kept = c.index-kept.result.now in
     let in_list : session < length summary.sessions.items = omega (arith, c.requires.within) in
     let is_kept = kept_at events history summary c.requires.stands session session kept refl in_list c.index-kept.ensures in
-    refused_next events history summary c.requires.stands session kept is_kept c.args.refusal.now c.due_kept-due.result c.due_kept-due.ensures c.args.statement c.in-Take.k c.is_next_refusal.result c.in-Take.is c.is_next_refusal.ensures
+    refused_next events history summary c.requires.stands session kept is_kept c.args.refusal.now c.due_kept-due.result c.due_kept-due.ensures c.args.locks.now c.requires.locks c.args.statement c.in-Take.k c.is_next_refusal.result c.in-Take.is c.is_next_refusal.ensures
 
 pub returns-in-Nothing : goal.returns-in-Nothing
 returns-in-Nothing c =
