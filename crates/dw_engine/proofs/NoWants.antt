@@ -1,7 +1,7 @@
 -- No statement that is run on what its session sees wants a lock, so nobody stands in its way. This is what changes once
 -- such statements want locks.
-use Rattle.std.proofs.Common.{◌≡◌, ℕ, suc, ◌<◌, Bool, true, false, not, ◌&&◌, List, [], ◌∷◌, length, refl, sym, ap, ◌∙◌, arith}
-use Rattle.std.specs.Prelude.{Option, Some, ◌==◌}
+use Rattle.std.proofs.Common.{◌≡◌, ℕ, suc, ◌<◌, Bool, true, false, not, ◌&&◌, List, [], ◌∷◌, length, refl, ap, ◌∙◌, arith}
+use Rattle.std.specs.Prelude.{Some, ◌==◌}
 use Rattle.std.specs.List.{filter, list_any, range_with_len}
 use Rattle.dw_model.specs.declared.statements.Statement.{Statement}
 use Rattle.dw_model.specs.declared.statements.Statement.TheVariants as forms
@@ -9,7 +9,7 @@ use Rattle.dw_journal.specs.declared.locks.Want.{Want}
 use Rattle.dw_journal.specs.History.{History}
 use Rattle.dw_journal.specs.Legal.{blockers_of}
 use Rattle.dw_journal.specs.Locks.{LockState, blockers, has_conflict, held_locks, lock_state, stands_in_way, wants_in, wants_of}
-use Rattle.dw_journal.specs.Turns.{number_due, statement_due}
+use Rattle.dw_journal.specs.Turns.{number_due}
 use Rattle.dw_locks.specs.declared.locks.Asked.TheVariants.{Waits, Deadlock}
 use Rattle.dw_core.specs.Asking.{IsAnswered}
 use Rattle.dw_engine.specs.EngineInvariant.{HaveNoVacuum}
