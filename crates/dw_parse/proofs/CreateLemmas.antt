@@ -357,8 +357,8 @@ sort_key_sound tokens i j rule =
 
 attribute_by_sound : (tokens : List Token) (i : ℕ) (w : AttributeWord) → attribute_word_at tokens i ≡ Some w → Sound (λ (r : Attribute × ℕ). IsAttribute tokens i r.0 r.1) (attribute_by tokens i w)
 attribute_by_sound tokens i a.DistStyle is =
-    sound_map (λ (r : Attribute × ℕ). IsAttribute tokens i r.0 r.1) (λ (one : Attribute). (one, i + 2)) (option_map (λ (style : Option StyleWord). attribute.Style style) (style_word tokens (i + 1)))
-    (sound_map (λ (one : Attribute). IsAttribute tokens i one (i + 2)) (λ (style : Option StyleWord). attribute.Style style) (style_word tokens (i + 1)) (λ style e. g.style is e))
+    sound_map (λ (r : Attribute × ℕ). IsAttribute tokens i r.0 r.1) (λ (one : Attribute). (one, i + 2)) (option_map (λ (style : StyleWord). attribute.Style style) (style_word tokens (i + 1)))
+    (sound_map (λ (one : Attribute). IsAttribute tokens i one (i + 2)) (λ (style : StyleWord). attribute.Style style) (style_word tokens (i + 1)) (λ style e. g.style is e))
 attribute_by_sound tokens i a.DistKey is =
     sound_when (λ (r : Attribute × ℕ). IsAttribute tokens i r.0 r.1) (is_sign_at mark.Open tokens (i + 1))
     (option_and_then (λ (name : List ℕ). when (is_sign_at mark.Close tokens (i + 3)) (attribute.DistKey name, i + 4)) (name_at tokens (i + 2)))

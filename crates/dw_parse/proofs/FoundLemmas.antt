@@ -185,6 +185,13 @@ reserved_says word t reserved said =
     let name = both.0 in
     rw (name, none) refl
 
+named_says : (word name : List ℕ) (found : Option Token) → is_reserved (folded word) ≡ true → option_and_then name_of found ≡ Some name → says_in word found ≡ false
+named_says word name None reserved e = refl
+named_says word name (Some t) reserved e = other_test (says word t) (λ said. let none = reserved_says word t reserved said in cc)
+
+pub name_no_word : (word : List ℕ) (tokens : List Token) (i : ℕ) (name : List ℕ) → is_reserved (folded word) ≡ true → name_at tokens i ≡ Some name → word_at word tokens i ≡ false
+name_no_word word tokens i name reserved e = named_says word name (slice_get tokens i) reserved e
+
 reserved_meant : {A : Type 0} (entries : List (List ℕ × A)) (t : Token) (a : A) → list_all (λ entry. is_reserved (folded entry.0)) entries ≡ true → meant entries t ≡ Some a → name_of t ≡ None
 reserved_meant [] t a reserved e = cc
 reserved_meant (entry ∷ entries) t a reserved e =

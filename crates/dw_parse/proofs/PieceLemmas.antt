@@ -2,17 +2,18 @@
 use Rattle.std.proofs.Common.{◌≡◌, ℕ, zero, suc, ◌+◌, ◌<◌, ◌≤◌, true, false, ◌&&◌, Option, Some, None, List, [], ◌∷◌, length, refl, arith}
 use Rattle.std.specs.Prelude.{codes}
 use Rattle.std.specs.Option.{option_map, option_and_then}
+use Rattle.dw_lex.specs.Meaning.{folded}
 use Rattle.dw_lex.specs.declared.signs.Sign.TheVariants as mark
 use Rattle.dw_lex.specs.declared.token.Token.{Token}
 use Rattle.dw_model.specs.declared.statements.Literal.{Literal}
 use Rattle.dw_model.specs.declared.statements.Literal.TheVariants.{Null, Words, Date, Truth}
 use Rattle.dw_parse.specs.declared.parts.LiteralWord.{LiteralWord}
 use Rattle.dw_parse.specs.declared.parts.LiteralWord.TheVariants as word
-use Rattle.dw_parse.specs.Words.{is_sign, is_sign_at, name_of, word_at, sign_at, name_at}
+use Rattle.dw_parse.specs.Words.{is_sign, is_sign_at, is_reserved, name_of, word_at, sign_at, name_at}
 use Rattle.dw_parse.specs.Literals.{literal_words, literal_word, digits_at, text_of, text_at, number_of_digits, negative_of_digits}
 use Rattle.dw_parse.specs.PieceReading.{with_end, first_and_more, listed_within, listed_at, first_and_rest, repeated_within, repeated_at, table_at, named_at, closed, names_at, maybe_names_at, plain_of, literal_by, literal_at, tuple_at}
 use Rattle.dw_parse.specs.Pieces.{Listed, one, more, Repeated, nothing, next, IsNamed, named, IsTable, alone, public, IsNames, names, IsMaybeNames, none, some, IsLiteral, number, negative, text, date, true_word, false_word, null_word, IsTuple, tuple}
-use Rattle.dw_parse.proofs.FoundLemmas.{at_within, sign_within, meant_within, digits_within, Spans, and_both, and_false, meant_no_sign, digits_no_minus, text_no_minus, digits_no_word, text_no_word, text_no_digits, close_comma, open_dot, Sound, sound_some, sound_none, sound_if, sound_when, sound_bind, sound_map}
+use Rattle.dw_parse.proofs.FoundLemmas.{at_within, sign_within, meant_within, digits_within, Spans, and_both, and_false, one_word, name_no_word, meant_no_sign, digits_no_minus, text_no_minus, digits_no_word, text_no_word, text_no_digits, close_comma, comma_dot, open_dot, Sound, sound_some, sound_none, sound_if, sound_when, sound_bind, sound_map}
 
 -- lists
 module _ {A : Type 0} (x : ℕ → Option (A × ℕ)) (X : ℕ → A → ℕ → Type 0) (tokens : List Token) (spans : (i j : ℕ) (a : A) → X i a j → Spans tokens i j) where
@@ -131,6 +132,28 @@ table_sound tokens i =
     (λ h. sound_map (λ (r : List ℕ × ℕ). IsTable tokens i r.0 r.1) (λ (name : List ℕ). (name, i + 3)) (name_at tokens (i + 2))
     (λ name e. public (and_both (word_at (codes "public") tokens i) (is_sign_at mark.Dot tokens (i + 1)) h).0 (and_both (word_at (codes "public") tokens i) (is_sign_at mark.Dot tokens (i + 1)) h).1 e))
     (λ h. sound_map (λ (r : List ℕ × ℕ). IsTable tokens i r.0 r.1) (λ (name : List ℕ). (name, i + 1)) (name_at tokens i) (λ name e. alone e))
+
+-- `[public .] name {, [public .] name}`
+pub table_list_complete : (tokens : List Token) {i k : ℕ} {list : List (List ℕ)} → Listed (IsTable tokens) tokens i list k → is_sign_at mark.Dot tokens k ≡ false → is_sign_at mark.Comma tokens k ≡ false → listed_at (table_at tokens) tokens i ≡ Some (list, k)
+table_list_complete tokens d ends stop =
+    listed_at_complete (table_at tokens) (IsTable tokens) tokens (λ i j name t. table_spans tokens t) (λ j. is_sign_at mark.Dot tokens j ≡ false) (λ j comma. comma_dot (sign_at tokens j) comma)
+    (λ i j name t after. table_complete tokens t after) d ends stop
+
+pub table_list_sound : (tokens : List Token) (i : ℕ) → Sound (λ (r : List (List ℕ) × ℕ). Listed (IsTable tokens) tokens i r.0 r.1) (listed_at (table_at tokens) tokens i)
+table_list_sound tokens i = listed_at_sound (table_at tokens) (IsTable tokens) tokens (λ i j name t. table_spans tokens t) (table_sound tokens) i
+
+-- no table's name begins with the word table
+table_reserved : is_reserved (folded (codes "table")) ≡ true
+unfolding is_reserved
+table_reserved = refl
+
+table_no_word : (tokens : List Token) {i j : ℕ} {name : List ℕ} → IsTable tokens i name j → word_at (codes "table") tokens i ≡ false
+table_no_word tokens (alone {i} {name} e) = name_no_word (codes "table") tokens i name table_reserved e
+table_no_word tokens (public {i} w d e) = one_word (codes "public") (codes "table") tokens i refl w
+
+pub table_list_no_word : (tokens : List Token) {i k : ℕ} {list : List (List ℕ)} → Listed (IsTable tokens) tokens i list k → word_at (codes "table") tokens i ≡ false
+table_list_no_word tokens (one h) = table_no_word tokens h
+table_list_no_word tokens (more h comma rest) = table_no_word tokens h
 
 -- `( name {, name} )` and `[names]`
 pub names_spans : (tokens : List Token) {i j : ℕ} {those : List (List ℕ)} → IsNames tokens i those j → Spans tokens i j

@@ -11,19 +11,19 @@ use Rattle.dw_lex.specs.declared.token.Token.{Token}
 use Rattle.dw_value.specs.declared.kinds.Comparison.{Comparison}
 use Rattle.dw_model.specs.declared.statements.Test.{Test}
 use Rattle.dw_model.specs.declared.statements.Statement.{Statement}
-use Rattle.dw_model.specs.declared.statements.Statement.TheVariants.{Begin, Commit, Rollback, Create, Drop, Insert, Select}
+use Rattle.dw_model.specs.declared.statements.Statement.TheVariants.{Begin, Commit, Rollback, Create, Drop, Lock, Insert, Select}
 use Rattle.dw_parse.specs.declared.parts.Part.{Part}
 use Rattle.dw_parse.specs.declared.parts.Attribute.{Attribute}
 use Rattle.dw_parse.specs.Words.{is_sign, is_sign_at, comparison_of, word_at, sign_at, name_at}
 use Rattle.dw_parse.specs.Tables.{columns_in, table_made}
 use Rattle.dw_parse.specs.PieceReading.{listed_at, repeated_at, table_at, named_at, maybe_names_at, literal_at, tuple_at}
 use Rattle.dw_parse.specs.CreateReading.{part_at, attribute_at}
-use Rattle.dw_parse.specs.Reading.{create_of, create_with, create_after, read_create, drop_after, read_drop, insert_of, insert_values, insert_after, read_insert, test_of, test_at, condition_at, select_of, select_after, read_select, is_rest, block_word, read_block, read_statement}
-use Rattle.dw_parse.specs.Pieces.{Repeated, IsTable}
+use Rattle.dw_parse.specs.Reading.{create_of, create_with, create_after, read_create, drop_after, read_drop, lock_of, lock_from, read_lock, insert_of, insert_values, insert_after, read_insert, test_of, test_at, condition_at, select_of, select_after, read_select, is_rest, block_word, read_block, read_statement}
+use Rattle.dw_parse.specs.Pieces.{Listed, Repeated, IsTable}
 use Rattle.dw_parse.specs.CreateGrammar.{IsAttribute}
-use Rattle.dw_parse.specs.Grammar.{IsCondition, absent, where_is, IsRest, ended, transaction, work, Derives, begin, start, commit, end, rollback, abort, create, drop, insert, select}
+use Rattle.dw_parse.specs.Grammar.{IsCondition, absent, where_is, IsRest, ended, transaction, work, Derives, begin, start, commit, end, rollback, abort, create, drop, lock, lock_table, insert, select}
 use Rattle.dw_parse.proofs.FoundLemmas.{and_both, or_either, one_word, word_no_sign, past_sign, past_word, open_dot, sign_within, Sound, sound_some, sound_if, sound_when, sound_bind, sound_map}
-use Rattle.dw_parse.proofs.PieceLemmas.{named_list_complete, named_list_sound, table_complete, table_sound, maybe_names_complete, maybe_names_dot, maybe_names_sound, literal_complete, literal_sound, tuples_complete, tuples_sound}
+use Rattle.dw_parse.proofs.PieceLemmas.{named_list_complete, named_list_sound, table_complete, table_sound, table_list_complete, table_list_sound, table_list_no_word, maybe_names_complete, maybe_names_dot, maybe_names_sound, literal_complete, literal_sound, tuples_complete, tuples_sound}
 use Rattle.dw_parse.proofs.CreateLemmas.{parts_complete, parts_sound, attributes_complete, attributes_sound}
 
 -- the condition
@@ -58,46 +58,62 @@ rest_complete tokens (work {i} w e) =
 
 -- a first word of which no other statement begins
 no_other : (tokens : List Token) (a : List ℕ) → pointwise nat_eq (folded a) (folded (codes "create")) ≡ false → pointwise nat_eq (folded a) (folded (codes "drop")) ≡ false → pointwise nat_eq (folded a) (folded (codes "insert")) ≡ false
-    → pointwise nat_eq (folded a) (folded (codes "select")) ≡ false → word_at a tokens 0 ≡ true → read_statement tokens ≡ read_block tokens
-no_other tokens a no_create no_drop no_insert no_select w =
+    → pointwise nat_eq (folded a) (folded (codes "select")) ≡ false → pointwise nat_eq (folded a) (folded (codes "lock")) ≡ false → word_at a tokens 0 ≡ true → read_statement tokens ≡ read_block tokens
+no_other tokens a no_create no_drop no_insert no_select no_lock w =
     let c = only a (codes "create") tokens no_create w in
     let d = only a (codes "drop") tokens no_drop w in
     let i = only a (codes "insert") tokens no_insert w in
     let s = only a (codes "select") tokens no_select w in
-    rw (c, d, i, s) refl
+    let l = only a (codes "lock") tokens no_lock w in
+    rw (c, d, i, s, l) refl
+
+-- after the word lock
+lock_read : (tokens : List Token) → word_at (codes "lock") tokens 0 ≡ true → read_statement tokens ≡ read_lock tokens
+lock_read tokens w =
+    let c = only (codes "lock") (codes "create") tokens refl w in
+    let d = only (codes "lock") (codes "drop") tokens refl w in
+    let i = only (codes "lock") (codes "insert") tokens refl w in
+    let s = only (codes "lock") (codes "select") tokens refl w in
+    rw (c, d, i, s, w) refl
+
+lock_from_read : (tokens : List Token) {i j : ℕ} {names : List (List ℕ)} → Listed (IsTable tokens) tokens i names j → j ≡ length tokens → lock_from tokens i ≡ Some (Lock names)
+lock_from_read tokens {j = j} list last =
+    let l = table_list_complete tokens list (past_sign (is_sign mark.Dot) tokens j last refl) (past_sign (is_sign mark.Comma) tokens j last refl) in
+    let n = eq-eqb j (length tokens) last in
+    rw (l, n) refl
 
 block_read : (tokens : List Token) (s : Statement) → word_at (codes "start") tokens 0 ≡ false → IsRest tokens 1 → block_word tokens ≡ Some s → read_block tokens ≡ Some s
 block_read tokens s not_start rest said = let whole = rest_complete tokens rest in rw (not_start, whole) said
 
 pub derives_read : (tokens : List Token) (statement : Statement) → Derives tokens statement → read_statement tokens ≡ Some statement
 derives_read tokens statement (begin w rest) =
-    no_other tokens (codes "begin") refl refl refl refl w
+    no_other tokens (codes "begin") refl refl refl refl refl w
     ∙ block_read tokens Begin (only (codes "begin") (codes "start") tokens refl w) rest (rw w refl)
 derives_read tokens statement (start w t count) =
     let two : length tokens == 2 ≡ true = eq-eqb (length tokens) 2 count in
-    no_other tokens (codes "start") refl refl refl refl w
+    no_other tokens (codes "start") refl refl refl refl refl w
     ∙ rw (w, t, two) refl
 derives_read tokens statement (commit w rest) =
     let no_begin = only (codes "commit") (codes "begin") tokens refl w in
-    no_other tokens (codes "commit") refl refl refl refl w
+    no_other tokens (codes "commit") refl refl refl refl refl w
     ∙ block_read tokens Commit (only (codes "commit") (codes "start") tokens refl w) rest (rw (no_begin, w) refl)
 derives_read tokens statement (end w rest) =
     let no_begin = only (codes "end") (codes "begin") tokens refl w in
     let no_commit = only (codes "end") (codes "commit") tokens refl w in
-    no_other tokens (codes "end") refl refl refl refl w
+    no_other tokens (codes "end") refl refl refl refl refl w
     ∙ block_read tokens Commit (only (codes "end") (codes "start") tokens refl w) rest (rw (no_begin, no_commit, w) refl)
 derives_read tokens statement (rollback w rest) =
     let no_begin = only (codes "rollback") (codes "begin") tokens refl w in
     let no_commit = only (codes "rollback") (codes "commit") tokens refl w in
     let no_end = only (codes "rollback") (codes "end") tokens refl w in
-    no_other tokens (codes "rollback") refl refl refl refl w
+    no_other tokens (codes "rollback") refl refl refl refl refl w
     ∙ block_read tokens Rollback (only (codes "rollback") (codes "start") tokens refl w) rest (rw (no_begin, no_commit, no_end, w) refl)
 derives_read tokens statement (abort w rest) =
     let no_begin = only (codes "abort") (codes "begin") tokens refl w in
     let no_commit = only (codes "abort") (codes "commit") tokens refl w in
     let no_end = only (codes "abort") (codes "end") tokens refl w in
     let no_rollback = only (codes "abort") (codes "rollback") tokens refl w in
-    no_other tokens (codes "abort") refl refl refl refl w
+    no_other tokens (codes "abort") refl refl refl refl refl w
     ∙ block_read tokens Rollback (only (codes "abort") (codes "start") tokens refl w) rest (rw (no_begin, no_commit, no_end, no_rollback, w) refl)
 derives_read tokens statement (create {i} {j} {k} {name} {parts} {attributes} w t table o list c more last few) =
     let e = table_complete tokens table (open_dot (sign_at tokens i) o) in
@@ -112,6 +128,13 @@ derives_read tokens statement (drop {i} {name} w t table last) =
     let e = table_complete tokens table (past_sign (is_sign mark.Dot) tokens i last refl) in
     let n = eq-eqb i (length tokens) last in
     rw (no_create, w, t, e, n) refl
+derives_read tokens statement (lock w list last) =
+    let t = table_list_no_word tokens list in
+    let e = lock_from_read tokens list last in
+    lock_read tokens w ∙ rw t e
+derives_read tokens statement (lock_table w t list last) =
+    let e = lock_from_read tokens list last in
+    lock_read tokens w ∙ rw t e
 derives_read tokens statement (insert {i} {j} {k} {name} {columns} {rows} w t table names v list last) =
     let no_create = only (codes "insert") (codes "create") tokens refl w in
     let no_drop = only (codes "insert") (codes "drop") tokens refl w in
@@ -171,6 +194,18 @@ drop_sound tokens w =
     (λ t. sound_bind (Derives tokens) (drop_after tokens) (table_at tokens 2)
     (λ table b. sound_when (Derives tokens) (table.1 == length tokens) (Some (Drop table.0))
     (λ e. sound_some (Derives tokens) (Drop table.0) (drop w t (table_sound tokens 2 table b) (eqb-true table.1 (length tokens) e)))))
+
+lock_from_sound : (tokens : List Token) (i : ℕ) → ((names : List (List ℕ)) (j : ℕ) → Listed (IsTable tokens) tokens i names j → j ≡ length tokens → Derives tokens (Lock names)) → Sound (Derives tokens) (lock_from tokens i)
+lock_from_sound tokens i rule =
+    sound_bind (Derives tokens) (lock_of tokens) (listed_at (table_at tokens) tokens i)
+    (λ names l. sound_when (Derives tokens) (names.1 == length tokens) (Some (Lock names.0))
+    (λ e. sound_some (Derives tokens) (Lock names.0) (rule names.0 names.1 (table_list_sound tokens i names l) (eqb-true names.1 (length tokens) e))))
+
+lock_sound : (tokens : List Token) → word_at (codes "lock") tokens 0 ≡ true → Sound (Derives tokens) (read_lock tokens)
+lock_sound tokens w =
+    sound_if (Derives tokens) (word_at (codes "table") tokens 1) (lock_from tokens 2) (lock_from tokens 1)
+    (λ t. lock_from_sound tokens 2 (λ names j list last. lock_table w t list last))
+    (λ t. lock_from_sound tokens 1 (λ names j list last. lock w list last))
 
 insert_sound : (tokens : List Token) → word_at (codes "insert") tokens 0 ≡ true → Sound (Derives tokens) (read_insert tokens)
 insert_sound tokens w =
@@ -236,16 +271,30 @@ block_sound tokens =
     (λ h. sound_some (Derives tokens) Begin (start w (and_both (word_at (codes "transaction") tokens 1) (length tokens == 2) h).0 (eqb-true (length tokens) 2 (and_both (word_at (codes "transaction") tokens 1) (length tokens == 2) h).1))))
     (λ w. sound_when (Derives tokens) (is_rest tokens 1) (block_word tokens) (λ r. word_sound tokens (rest_sound tokens 1 r)))
 
+abbrev read_after_select : List Token → Option Statement
+read_after_select tokens = if word_at (codes "lock") tokens 0 then read_lock tokens else read_block tokens
+
+abbrev read_after_insert : List Token → Option Statement
+read_after_insert tokens = if word_at (codes "select") tokens 0 then read_select tokens else read_after_select tokens
+
+abbrev read_after_drop : List Token → Option Statement
+read_after_drop tokens = if word_at (codes "insert") tokens 0 then read_insert tokens else read_after_insert tokens
+
+abbrev read_after_create : List Token → Option Statement
+read_after_create tokens = if word_at (codes "drop") tokens 0 then read_drop tokens else read_after_drop tokens
+
 statement_sound : (tokens : List Token) → Sound (Derives tokens) (read_statement tokens)
 statement_sound tokens =
-    sound_if (Derives tokens) (word_at (codes "create") tokens 0) (read_create tokens) (if word_at (codes "drop") tokens 0 then read_drop tokens else if word_at (codes "insert") tokens 0 then read_insert tokens else if word_at (codes "select") tokens 0 then read_select tokens else read_block tokens)
+    sound_if (Derives tokens) (word_at (codes "create") tokens 0) (read_create tokens) (read_after_create tokens)
     (λ w. create_sound tokens w)
-    (λ c. sound_if (Derives tokens) (word_at (codes "drop") tokens 0) (read_drop tokens) (if word_at (codes "insert") tokens 0 then read_insert tokens else if word_at (codes "select") tokens 0 then read_select tokens else read_block tokens)
+    (λ c. sound_if (Derives tokens) (word_at (codes "drop") tokens 0) (read_drop tokens) (read_after_drop tokens)
     (λ w. drop_sound tokens w)
-    (λ d. sound_if (Derives tokens) (word_at (codes "insert") tokens 0) (read_insert tokens) (if word_at (codes "select") tokens 0 then read_select tokens else read_block tokens)
+    (λ d. sound_if (Derives tokens) (word_at (codes "insert") tokens 0) (read_insert tokens) (read_after_insert tokens)
     (λ w. insert_sound tokens w)
-    (λ i. sound_if (Derives tokens) (word_at (codes "select") tokens 0) (read_select tokens) (read_block tokens)
-    (λ w. select_sound tokens w) (λ s. block_sound tokens))))
+    (λ i. sound_if (Derives tokens) (word_at (codes "select") tokens 0) (read_select tokens) (read_after_select tokens)
+    (λ w. select_sound tokens w)
+    (λ s. sound_if (Derives tokens) (word_at (codes "lock") tokens 0) (read_lock tokens) (read_block tokens)
+    (λ w. lock_sound tokens w) (λ l. block_sound tokens)))))
 
 pub read_derives : (tokens : List Token) (s : Statement) → read_statement tokens ≡ Some s → Derives tokens s
 read_derives tokens s e = statement_sound tokens s e

@@ -1,6 +1,6 @@
 -- The grammar of CREATE TABLE between its parentheses and after them: kinds, columns with options, constraints,
 -- attributes. After the Amazon Redshift guide (CREATE TABLE, data types).
-use Rattle.std.specs.Prelude.{◌≡◌, ℕ, ◌+◌, true, ◌||◌, Option, Some, List, codes}
+use Rattle.std.specs.Prelude.{◌≡◌, ℕ, ◌+◌, true, ◌||◌, Some, List, codes}
 use Rattle.dw_lex.specs.declared.token.Token.{Token}
 use Rattle.dw_lex.specs.declared.signs.Sign.TheVariants as mark
 use Rattle.dw_value.specs.declared.kinds.Encoding.{Encoding}
@@ -89,7 +89,7 @@ pub data IsPart (tokens : List Token) : ℕ → Part → ℕ → Type 0 where
 -- `diststyle style`, `distkey ( name )`, `[compound] sortkey names`, `sortkey auto`, `encode auto` or `backup yes` or
 -- `backup no`
 pub data IsAttribute (tokens : List Token) : ℕ → Attribute → ℕ → Type 0 where
-  style : {i : ℕ} {style : Option StyleWord} → attribute_word_at tokens i ≡ Some attribute_words.DistStyle
+  style : {i : ℕ} {style : StyleWord} → attribute_word_at tokens i ≡ Some attribute_words.DistStyle
       → style_word tokens (i + 1) ≡ Some style → IsAttribute tokens i (attribute.Style style) (i + 2)
   dist_key : {i : ℕ} {name : List ℕ} → attribute_word_at tokens i ≡ Some attribute_words.DistKey
       → is_sign_at mark.Open tokens (i + 1) ≡ true → name_at tokens (i + 2) ≡ Some name

@@ -7,7 +7,7 @@ use Rattle.dw_value.specs.declared.kinds.Comparison.{Comparison}
 use Rattle.dw_model.specs.declared.statements.Literal.{Literal}
 use Rattle.dw_model.specs.declared.statements.Test.{Test}
 use Rattle.dw_model.specs.declared.statements.Statement.{Statement}
-use Rattle.dw_model.specs.declared.statements.Statement.TheVariants.{Begin, Commit, Rollback, Create, Drop, Insert, Select}
+use Rattle.dw_model.specs.declared.statements.Statement.TheVariants.{Begin, Commit, Rollback, Create, Drop, Lock, Insert, Select}
 use Rattle.dw_parse.specs.declared.parts.Part.{Part}
 use Rattle.dw_parse.specs.declared.parts.Attribute.{Attribute}
 use Rattle.dw_parse.specs.Words.{is_sign_at, comparison_of, word_at, sign_at, name_at}
@@ -33,6 +33,7 @@ pub data IsRest (tokens : List Token) : ℕ → Type 0 where
 -- `begin`, `commit`, `end`, `rollback` or `abort`, each with `[transaction | work]`, and `start transaction`,
 -- `create table [public .] name ( part {, part} ) {attribute}`, of at most 1,600 columns,
 -- `drop table [public .] name`,
+-- `lock [table] [public .] name {, [public .] name}`,
 -- `insert into [public .] name [names] values tuple {, tuple}`,
 -- `select name {, name} from [public .] name [where name comparison literal]`.
 pub data Derives (tokens : List Token) : Statement → Type 0 where
@@ -50,6 +51,11 @@ pub data Derives (tokens : List Token) : Statement → Type 0 where
       → length (flat_map columns_in parts) ≤ 1600 → Derives tokens (Create (table_made name parts attributes))
   drop : {i : ℕ} {name : List ℕ} → word_at (codes "drop") tokens 0 ≡ true → word_at (codes "table") tokens 1 ≡ true
       → IsTable tokens 2 name i → i ≡ length tokens → Derives tokens (Drop name)
+  lock : {i : ℕ} {names : List (List ℕ)} → word_at (codes "lock") tokens 0 ≡ true
+      → Listed (IsTable tokens) tokens 1 names i → i ≡ length tokens → Derives tokens (Lock names)
+  lock_table : {i : ℕ} {names : List (List ℕ)} → word_at (codes "lock") tokens 0 ≡ true
+      → word_at (codes "table") tokens 1 ≡ true → Listed (IsTable tokens) tokens 2 names i → i ≡ length tokens
+      → Derives tokens (Lock names)
   insert : {i j k : ℕ} {name : List ℕ} {columns : List (List ℕ)} {rows : List (List Literal)}
       → word_at (codes "insert") tokens 0 ≡ true → word_at (codes "into") tokens 1 ≡ true → IsTable tokens 2 name i
       → IsMaybeNames tokens i columns j → word_at (codes "values") tokens j ≡ true

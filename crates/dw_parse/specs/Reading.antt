@@ -7,7 +7,7 @@ use Rattle.dw_value.specs.declared.kinds.Comparison.{Comparison}
 use Rattle.dw_model.specs.declared.statements.Literal.{Literal}
 use Rattle.dw_model.specs.declared.statements.Test.{Test}
 use Rattle.dw_model.specs.declared.statements.Statement.{Statement}
-use Rattle.dw_model.specs.declared.statements.Statement.TheVariants.{Begin, Commit, Rollback, Create, Drop, Insert, Select}
+use Rattle.dw_model.specs.declared.statements.Statement.TheVariants.{Begin, Commit, Rollback, Create, Drop, Lock, Insert, Select}
 use Rattle.dw_parse.specs.declared.parts.Part.{Part}
 use Rattle.dw_parse.specs.declared.parts.Attribute.{Attribute}
 use Rattle.dw_parse.specs.Words.{is_sign_at, comparison_of, word_at, sign_at, name_at}
@@ -42,6 +42,16 @@ drop_after tokens table = if table.1 == length tokens then Some (Drop table.0) e
 abbrev pub read_drop : List Token → Option Statement
 read_drop tokens =
     if word_at (codes "table") tokens 1 then option_and_then (drop_after tokens) (table_at tokens 2) else None
+
+-- `lock [table] [public .] name {, [public .] name}`
+abbrev pub lock_of : List Token → List (List ℕ) × ℕ → Option Statement
+lock_of tokens names = if names.1 == length tokens then Some (Lock names.0) else None
+
+abbrev pub lock_from : List Token → ℕ → Option Statement
+lock_from tokens i = option_and_then (lock_of tokens) (listed_at (table_at tokens) tokens i)
+
+abbrev pub read_lock : List Token → Option Statement
+read_lock tokens = if word_at (codes "table") tokens 1 then lock_from tokens 2 else lock_from tokens 1
 
 -- `insert into [public .] name [names] values tuple {, tuple}`
 abbrev pub insert_of : List Token → List ℕ → List (List ℕ) → List (List Literal) × ℕ → Option Statement
@@ -114,4 +124,5 @@ read_statement tokens =
     if word_at (codes "create") tokens 0 then read_create tokens else
     if word_at (codes "drop") tokens 0 then read_drop tokens else
     if word_at (codes "insert") tokens 0 then read_insert tokens else
-    if word_at (codes "select") tokens 0 then read_select tokens else read_block tokens
+    if word_at (codes "select") tokens 0 then read_select tokens else
+    if word_at (codes "lock") tokens 0 then read_lock tokens else read_block tokens

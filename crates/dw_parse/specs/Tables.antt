@@ -53,13 +53,13 @@ attribute_words =
 abbrev pub attribute_word_at : List Token → ℕ → Option AttributeWord
 attribute_word_at tokens i = meant_at attribute_words tokens i
 
--- what stands after DISTSTYLE; AUTO counts as no style
-abbrev pub style_words : List (List ℕ × Option StyleWord)
+-- what stands after DISTSTYLE; AUTO is taken as EVEN
+abbrev pub style_words : List (List ℕ × StyleWord)
 style_words =
-    (codes "even", Some styles.Even) ∷ (codes "key", Some styles.Key) ∷ (codes "all", Some styles.All)
-    ∷ (codes "auto", None) ∷ []
+    (codes "even", styles.Even) ∷ (codes "key", styles.Key) ∷ (codes "all", styles.All)
+    ∷ (codes "auto", styles.Even) ∷ []
 
-abbrev pub style_word : List Token → ℕ → Option (Option StyleWord)
+abbrev pub style_word : List Token → ℕ → Option StyleWord
 style_word tokens i = meant_at style_words tokens i
 
 -- of two the later one, where there is one
@@ -122,8 +122,8 @@ abbrev pub names_in : Part → List (List ℕ)
 names_in (part.Column name kind options) = []
 names_in (part.Constraint names) = names
 
--- DISTSTYLE AUTO takes a style away that was written before it
-abbrev pub style_said : Attribute → Option (Option StyleWord)
+-- the style of a DISTSTYLE
+abbrev pub style_said : Attribute → Option StyleWord
 style_said (attribute.Style style) = Some style
 style_said _ = None
 
@@ -146,7 +146,7 @@ abbrev pub table_made : List ℕ → List Part → List Attribute → TableSpec
 table_made name parts attributes = record {
   name = name;
   columns = flat_map columns_in parts;
-  style = unwrap_or (last_of style_said attributes) None;
+  style = last_of style_said attributes;
   dist_keys = flat_map dist_keys_in parts ++ flat_map dist_keys_of attributes;
   sort_keys = flat_map sort_keys_in parts ++ flat_map sort_keys_of attributes;
   named = flat_map names_in parts ++ flat_map names_of attributes;

@@ -38,21 +38,21 @@ impl Said for AttributeWord {
     }
 }
 
-// What stands after DISTSTYLE; AUTO is none.
-impl Said for Option<StyleWord> {
+// What stands after DISTSTYLE; AUTO is taken as EVEN.
+impl Said for StyleWord {
     ghost use Rattle.dw_parse.specs.Tables.{style_words};
 
     ghost words = { style_words };
 
-    fn of(token: &Token) -> Option<Option<StyleWord>> {
+    fn of(token: &Token) -> Option<StyleWord> {
         if says(token, "even") {
-            Some(Some(StyleWord::Even))
+            Some(StyleWord::Even)
         } else if says(token, "key") {
-            Some(Some(StyleWord::Key))
+            Some(StyleWord::Key)
         } else if says(token, "all") {
-            Some(Some(StyleWord::All))
+            Some(StyleWord::All)
         } else if says(token, "auto") {
-            Some(None)
+            Some(StyleWord::Even)
         } else {
             None
         }
@@ -66,7 +66,7 @@ fn style_at(tokens: &List<Token>, at: usize) -> Option<(Attribute, usize)>
     ensures within { IfSome result (λ found. (at < found.1) × (found.1 ≤ length tokens.now)) }
 {
     let _count = tokens.len();
-    match meant_at::<Option<StyleWord>>(tokens, at + 1) {
+    match meant_at::<StyleWord>(tokens, at + 1) {
         Some(style) => Some((Attribute::Style { style }, at + 2)),
         None => None,
     }

@@ -1,8 +1,9 @@
 //! The statement that the tokens of a text stand for.
 //!
 //! The grammar is this project's profile of the SQL of the Amazon Redshift guide: CREATE TABLE with options, constraints
-//! and attributes, DROP TABLE, INSERT of tuples of literals, SELECT of columns of one table with at most one comparison,
-//! and the statements that begin and end a block: BEGIN, START TRANSACTION, COMMIT, END, ROLLBACK and ABORT.
+//! and attributes, DROP TABLE, LOCK of tables, INSERT of tuples of literals, SELECT of columns of one table with at most
+//! one comparison, and the statements that begin and end a block: BEGIN, START TRANSACTION, COMMIT, END, ROLLBACK and
+//! ABORT.
 #![tactic(auto)]
 
 mod attributes;
@@ -15,6 +16,7 @@ mod kinds;
 mod laws;
 mod lists;
 mod literals;
+mod lock;
 mod names;
 mod options;
 mod parser;

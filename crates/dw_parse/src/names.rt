@@ -7,6 +7,7 @@ use crate::words::{is_sign_at, name_at, word_at};
 use dw_lex::{Sign, Token};
 use dw_value::{List, Text};
 use std::alloc::{AllocError, Global};
+use std::marker::Model;
 
 /// The table's name at a place, with the place after it.
 pub fn table_at(
@@ -47,6 +48,67 @@ impl Element for Text {
             None => Ok(None),
         }
     }
+}
+
+/// A table's name where it stands in a list. Contracts see it as the name.
+#[derive(Drop)]
+pub struct TableName {
+    name: Text,
+}
+
+impl Model for TableName {
+    ghost use Rattle.std.specs.Prelude.{ℕ, List};
+    ghost use Rattle.std.specs.Coded.{coded_list, coded_ℕ};
+
+    ghost Value = { List ℕ };
+
+    ghost coded = { coded_list coded_ℕ };
+
+    ghost view = { λ table. table.name };
+}
+
+impl TableName {
+    fn new(name: Text) -> TableName
+        ensures { result ≡ name }
+    {
+        TableName { name }
+    }
+
+    fn into_text(self) -> Text
+        ensures { result ≡ self }
+    {
+        let TableName { name } = self;
+        name
+    }
+}
+
+// `[public .] name`
+impl Element for TableName {
+    ghost use Rattle.dw_parse.specs.PieceReading.{table_at};
+
+    ghost read_at = { table_at };
+
+    fn at(
+        alloc: Global,
+        tokens: &List<Token>,
+        at: usize,
+    ) -> Result<Option<(TableName, usize)>, AllocError> {
+        match table_at(alloc, tokens, at)? {
+            Some((name, end)) => Ok(Some((TableName::new(name), end))),
+            None => Ok(None),
+        }
+    }
+}
+
+/// The names of tables as texts, in the same order.
+pub fn texts_of(alloc: Global, tables: List<TableName>) -> Result<List<Text>, AllocError>
+    ensures { IfOk result (λ names. names ≡ tables) }
+{
+    let mut names = List::new(alloc);
+    for table in tables.into_vec() {
+        names.push(table.into_text())?;
+    }
+    Ok(names)
 }
 
 /// The names in parentheses at a place, with the place after them.

@@ -7,6 +7,7 @@ use crate::block::read_block;
 use crate::create::{read_create, read_drop};
 use crate::fault::ParseFault;
 use crate::insert::read_insert;
+use crate::lock::read_lock;
 use crate::select::read_select;
 use crate::words::word_at;
 use dw_lex::Token;
@@ -25,6 +26,8 @@ fn read_statement(alloc: Global, tokens: &List<Token>) -> Result<Option<Statemen
         read_insert(alloc, tokens)
     } else if word_at(tokens, 0, "select") {
         read_select(alloc, tokens)
+    } else if word_at(tokens, 0, "lock") {
+        read_lock(alloc, tokens)
     } else {
         Ok(read_block(tokens))
     }

@@ -92,8 +92,8 @@ pub enum AttributeWord {
 /// What stands after the parentheses of a CREATE TABLE.
 #[derive(Debug, Drop)]
 pub enum Attribute {
-    /// DISTSTYLE; AUTO is none.
-    Style { style: Option<StyleWord> },
+    /// DISTSTYLE.
+    Style { style: StyleWord },
     /// DISTKEY with a name.
     DistKey { name: Text },
     /// SORTKEY with names.

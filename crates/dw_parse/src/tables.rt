@@ -1,6 +1,6 @@
 //! What the parts of a CREATE TABLE make of the table.
-ghost use Rattle.std.specs.Prelude.{◌≡◌, ◌++◌, [], ◌∷◌, map, filter, flat_map, unwrap_or, None, IfOk};
-ghost use Rattle.dw_parse.specs.Tables.{last_of, style_said, is_dist_key, is_sort_key, column_made, table_made};
+ghost use Rattle.std.specs.Prelude.{◌≡◌, ◌++◌, [], ◌∷◌, map, filter, flat_map, IfOk};
+ghost use Rattle.dw_parse.specs.Tables.{later, last_of, style_said, is_dist_key, is_sort_key, column_made, table_made};
 ghost use Rattle.dw_parse.specs.Tables.{columns_in, dist_keys_in, sort_keys_in, names_in};
 ghost use Rattle.dw_parse.specs.Tables.{dist_keys_of, sort_keys_of, names_of};
 
@@ -113,14 +113,14 @@ fn add_part(alloc: Global, spec: &mut TableSpec, part: Part) -> Result<(), Alloc
 fn add_attribute(spec: &mut TableSpec, attribute: Attribute) -> Result<(), AllocError>
     ensures name { IfOk result (λ done. spec.new.name ≡ spec.old.name) }
     ensures columns { IfOk result (λ done. spec.new.columns ≡ spec.old.columns) }
-    ensures style { IfOk result (λ done. spec.new.style ≡ unwrap_or (style_said attribute) spec.old.style) }
+    ensures style { IfOk result (λ done. spec.new.style ≡ later spec.old.style (style_said attribute)) }
     ensures dist_keys { IfOk result (λ done. spec.new.dist_keys ≡ spec.old.dist_keys ++ dist_keys_of attribute) }
     ensures sort_keys { IfOk result (λ done. spec.new.sort_keys ≡ spec.old.sort_keys ++ sort_keys_of attribute) }
     ensures named { IfOk result (λ done. spec.new.named ≡ spec.old.named ++ names_of attribute) }
 {
     match attribute {
         Attribute::Style { style } => {
-            spec.style = style;
+            spec.style = Some(style);
             Ok(())
         }
         Attribute::DistKey { name } => {
@@ -154,7 +154,7 @@ fn add_parts(alloc: Global, spec: &mut TableSpec, parts: List<Part>) -> Result<(
 fn add_attributes(spec: &mut TableSpec, attributes: List<Attribute>) -> Result<(), AllocError>
     ensures name { IfOk result (λ done. spec.new.name ≡ spec.old.name) }
     ensures columns { IfOk result (λ done. spec.new.columns ≡ spec.old.columns) }
-    ensures style { IfOk result (λ done. spec.new.style ≡ unwrap_or (last_of style_said attributes) spec.old.style) }
+    ensures style { IfOk result (λ done. spec.new.style ≡ later spec.old.style (last_of style_said attributes)) }
     ensures dist_keys { IfOk result (λ done.
         spec.new.dist_keys ≡ spec.old.dist_keys ++ flat_map dist_keys_of attributes) }
     ensures sort_keys { IfOk result (λ done.
@@ -168,6 +168,7 @@ fn add_attributes(spec: &mut TableSpec, attributes: List<Attribute>) -> Result<(
 }
 
 /// The table of this name that parts and attributes make.
+#[tactic(auto, using(crate::proofs::TableLemmas::later_none))]
 pub fn table_made(
     alloc: Global,
     name: Text,

@@ -123,6 +123,10 @@ fn show_statement(line: &mut String, statement: &Statement) -> Result<(), AllocE
             let name = table.as_str();
             write!(line, "drop {name}")
         }
+        Statement::Lock { tables } => {
+            line.push_str("lock ")?;
+            show_names(line, tables)
+        }
         Statement::Insert {
             table,
             columns,
@@ -233,6 +237,22 @@ fn texts_are_statements_or_refused(rt: HostRuntime) -> Result<(), Fail> {
         ("drop table", "syntax 0"),
         ("drop table t, u", "syntax 0"),
         ("drop table public.", "syntax 0"),
+        ("lock a", "lock ( a ) "),
+        ("LOCK TABLE a, public.b , c", "lock ( a b c ) "),
+        ("lock public.a", "lock ( a ) "),
+        ("lock table Public . A", "lock ( a ) "),
+        ("lock a, a", "lock ( a a ) "),
+        ("lock lock, public", "lock ( lock public ) "),
+        ("lock", "syntax 0"),
+        ("lock table", "syntax 0"),
+        ("lock a b", "syntax 0"),
+        ("lock a,", "syntax 0"),
+        ("lock table table", "syntax 0"),
+        ("lock a, table b", "syntax 0"),
+        ("lock tables a", "syntax 0"),
+        ("lock (a)", "syntax 0"),
+        ("lock public.", "syntax 0"),
+        ("lock other.a", "syntax 0"),
         (
             "insert into t values (2,'b'), (-1,NULL)",
             "insert t: ( 2/0 'b' ) ( -1/0 null ) ",
@@ -447,9 +467,11 @@ fn attributes_make_tables(rt: HostRuntime) -> Result<(), Fail> {
         ("diststyle even", "Even "),
         ("DISTSTYLE key", "Key "),
         ("diststyle all", "All "),
-        ("diststyle auto", ""),
+        ("DistStyle Auto", "Even "),
         ("diststyle even diststyle all", "All "),
-        ("diststyle all diststyle auto", ""),
+        ("diststyle all diststyle auto", "Even "),
+        ("diststyle auto diststyle key", "Key "),
+        ("diststyle auto distkey (x)", "Even dist ( x ) named ( x ) "),
         ("distkey (X)", "dist ( x ) named ( x ) "),
         ("distkey(x) distkey(y)", "dist ( x y ) named ( x y ) "),
         ("sortkey (x, Y)", "sort ( x y ) named ( x y ) "),
