@@ -16,7 +16,6 @@ use Rattle.dw_model.specs.Objects.{same_object}
 use Rattle.dw_journal.specs.declared.Certified.{Certified}
 use Rattle.dw_journal.specs.declared.Event.{Event}
 use Rattle.dw_journal.specs.declared.Taken.{Taken}
-use Rattle.dw_journal.specs.Worlds.{session_count}
 use Rattle.dw_journal.specs.History.{History}
 use Rattle.dw_journal.specs.Transactions.{Transaction, transaction_of, opened_statements, taken_over, taken_of, snapshot_in, commits}
 use Rattle.dw_journal.specs.Contents.{contents}

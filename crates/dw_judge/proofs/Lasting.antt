@@ -1,5 +1,5 @@
 -- The table of locks stands for the history once more, after one more event that follows and is legal.
-use Rattle.std.proofs.Common.{◌≡◌, ℕ, zero, suc, ◌+◌, ◌<◌, ◌≤◌, Bool, true, false, ◌||◌, List, [], ◌∷◌, ◌++◌, length, set, refl, sym, ap, subst, ◌∙◌, arith, append-nil}
+use Rattle.std.proofs.Common.{◌≡◌, ℕ, zero, suc, ◌+◌, ◌<◌, ◌≤◌, Bool, true, false, ◌||◌, List, [], ◌∷◌, ◌++◌, length, refl, sym, ap, subst, ◌∙◌, arith, append-nil}
 use Rattle.std.specs.Prelude.{Option, Some, None, flat_map, is_some, not, replicate, ◌==◌, ◌&&◌}
 use Rattle.std.specs.List.{filter, find, list_any, range_with_len}
 use Rattle.std.proofs.lemmas.Bool.{false≢true}
@@ -16,7 +16,7 @@ use Rattle.dw_journal.specs.Vacuums.{swept_after, swept_by, sweeper}
 use Rattle.dw_journal.specs.Locks.{LockState, held_locks, lock_state, stands_in_way, sweep_lock, sweep_locks, wants_of}
 use Rattle.dw_journal.specs.Follows.{EachFollows, FollowsAfter}
 use Rattle.dw_journal.specs.Legal.{IsLegalAfter, IsLegalOpened, blockers_of}
-use Rattle.dw_locks.specs.LockTable.{HaveSame, LockEntry, LockTable, StandsForLocks, entry_of, free_entry, granted, holds_against, is_blocker, table_blockers, waiting, wants_waited}
+use Rattle.dw_locks.specs.LockTable.{LockTable, StandsForLocks, entry_of, free_entry, granted, is_blocker, table_blockers, wants_waited}
 use Rattle.dw_locks.proofs.HeldOnce.{grant_is}
 use Rattle.dw_locks.proofs.Lasting.{granted_stands, held_own, new_stands, released_stands, stands_set, waiting_stands}
 use Rattle.dw_locks.proofs.Standing.{blockers_are}

@@ -1,5 +1,5 @@
 -- The table of locks answers what the history says of locks.
-use Rattle.std.proofs.Common.{◌≡◌, ℕ, ◌<◌, Bool, true, false, List, [], ◌∷◌, length, refl, sym, ap, subst, ◌∙◌, arith}
+use Rattle.std.proofs.Common.{◌≡◌, ℕ, ◌<◌, Bool, true, List, [], ◌∷◌, length, refl, sym, ap, subst, ◌∙◌, arith}
 use Rattle.std.specs.Prelude.{Option, Some, None}
 use Rattle.std.specs.Bool.{Decides}
 use Rattle.std.proofs.lemmas.Bool.{false≢true}
@@ -9,8 +9,6 @@ use Rattle.dw_journal.specs.declared.locks.Want.{Want}
 use Rattle.dw_journal.specs.History.{History}
 use Rattle.dw_journal.specs.Locks.{blockers, deadlock_cycle, lock_state, wants_of}
 use Rattle.dw_journal.specs.Legal.{IsLockWait, blockers_of, cycle_of, unless_blocked}
-use Rattle.dw_locks.specs.declared.locks.Asked.{Asked}
-use Rattle.dw_locks.specs.declared.locks.Asked.TheVariants.{Granted, Waits, Deadlock}
 use Rattle.dw_locks.specs.LockTable.{LockTable, StandsForLocks, table_cycle}
 use Rattle.dw_locks.specs.Requests.{answer_by, answer_to}
 use Rattle.dw_locks.proofs.Standing.{blockers_are, cycle_stands}

@@ -1,7 +1,7 @@
 -- While a vacuum of a session runs, no statement is open in a transaction of the session; and where anything else is due of
 -- it, none of its vacuums runs.
-use Rattle.std.proofs.Common.{◌≡◌, ℕ, zero, suc, ◌+◌, ◌<◌, Bool, true, false, List, [], ◌∷◌, refl, sym, ap, subst, ◌∙◌}
-use Rattle.std.specs.Prelude.{Option, Some, None, nat_lt, if◌then◌else◌}
+use Rattle.std.proofs.Common.{◌≡◌, ℕ, zero, suc, ◌+◌, Bool, true, false, List, [], ◌∷◌, refl, ap}
+use Rattle.std.specs.Prelude.{Option, Some, None, if◌then◌else◌}
 use Rattle.std.proofs.lemmas.Bool.{eqb-true, false≢true}
 use Rattle.dw_journal.specs.declared.BlockState.{BlockState}
 use Rattle.dw_journal.specs.declared.BlockState.TheVariants.{Outside, Within, Aborted}
@@ -15,7 +15,7 @@ use Rattle.dw_journal.specs.History.{History, is_of, is_session, newest_event, s
 use Rattle.dw_journal.specs.Blocks.{block_after, block_by, block_of}
 use Rattle.dw_journal.specs.Transactions.{Transaction, opened_after, opened_statements, transaction_of}
 use Rattle.dw_journal.specs.Vacuums.{swept_after, swept_by}
-use Rattle.dw_journal.specs.Turns.{Turn, Nothing, AnswerOf, CommitOf, SliceOf, SweepEndOf, Taking, AtEnd, Idle, next_turn, taking, turn_after, turn_of}
+use Rattle.dw_journal.specs.Turns.{Turn, Nothing, AnswerOf, CommitOf, SliceOf, SweepEndOf, Taking, AtEnd, Idle, taking, turn_after, turn_of}
 use Rattle.dw_journal.specs.Follows.{is_answer, is_answer_refused, is_commit, is_violation, is_commit_refused, is_wait, is_opening_refused, is_opened, is_sweep_wait, is_sweep_refused, is_sweep_begin, foreign, begin_outside, begin_within, begin_aborted, commit_outside, commit_of_nothing, commit_within, commit_aborted, rollback_outside, rollback_within, rollback_aborted, vacuum_outside, vacuum_within, vacuum_aborted, work_outside, work_within, work_aborted, IsDue, answers, decides, rebuilds, has_rebuilt, takes, ends, sweeps, FollowsAfter, EachFollows}
 use Rattle.dw_journal.proofs.OneJournal.{due_of}
 use Rattle.dw_journal.proofs.OpenedStatements.{AreOpened, are_opened}

@@ -1,5 +1,5 @@
 -- A refusal is legal exactly where the tests say so.
-use Rattle.std.proofs.Common.{◌≡◌, ℕ, ◌<◌, Bool, false, List, [], refl, sym, ap, subst, ◌∙◌, inl, inr}
+use Rattle.std.proofs.Common.{◌≡◌, ℕ, ◌<◌, Bool, false, List, refl, sym, ap, subst, ◌∙◌, inl, inr}
 use Rattle.std.specs.Prelude.{Option, Some, None, Result, Ok, Err, IfOk, ◌⊎◌, option_map, reverse}
 use Rattle.std.specs.List.{position}
 use Rattle.std.specs.Bool.{Decides}

@@ -143,9 +143,7 @@ fn is_taken(k: u64, given: &Given, block: BlockState, is_open: bool, event: &Eve
             | Statement::Drop { .. }
             | Statement::Lock { .. }
             | Statement::Insert { .. }
-            | Statement::Select { .. } => {
-                is_work_taken(k, block, event)
-            }
+            | Statement::Select { .. } => { is_work_taken(k, block, event) }
         },
     }
 }

@@ -67,7 +67,12 @@ pub(crate) fn is_legal_opened(
     let Some(opened) = statement_at(world, session, statement as u64) else {
         return Ok(false);
     };
-    let free = is_free(alloc, locks, session, given(world, session, statement as u64))?;
+    let free = is_free(
+        alloc,
+        locks,
+        session,
+        given(world, session, statement as u64),
+    )?;
     if !free {
         return Ok(false);
     }

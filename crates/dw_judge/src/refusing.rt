@@ -235,12 +235,10 @@ fn outside_refusal(
         Statement::Vacuum { table } => sweep_refusal(swept, asked, database, table),
         Statement::Begin | Statement::Commit | Statement::Rollback => Ok(None),
         Statement::Create { .. }
-            | Statement::Drop { .. }
-            | Statement::Lock { .. }
-            | Statement::Insert { .. }
-            | Statement::Select { .. } => {
-            unless_asked(asked, bound_refusal(statement, seen)?)
-        }
+        | Statement::Drop { .. }
+        | Statement::Lock { .. }
+        | Statement::Insert { .. }
+        | Statement::Select { .. } => { unless_asked(asked, bound_refusal(statement, seen)?) }
     }
 }
 
@@ -261,12 +259,10 @@ fn within_refusal(
         Statement::Vacuum { .. } => Ok(Some(Refusal::InBlock)),
         Statement::Begin | Statement::Commit | Statement::Rollback => Ok(None),
         Statement::Create { .. }
-            | Statement::Drop { .. }
-            | Statement::Lock { .. }
-            | Statement::Insert { .. }
-            | Statement::Select { .. } => {
-            unless_asked(asked, bound_refusal(statement, seen)?)
-        }
+        | Statement::Drop { .. }
+        | Statement::Lock { .. }
+        | Statement::Insert { .. }
+        | Statement::Select { .. } => { unless_asked(asked, bound_refusal(statement, seen)?) }
     }
 }
 

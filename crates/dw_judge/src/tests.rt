@@ -1,7 +1,9 @@
 //! Journals judged beside their worlds, with ample memory.
 use crate::{Verdict, judge};
 use dw_journal::{Event, Given, Journal, Route, Shape, World};
-use dw_model::{Answer, ColumnSpec, FileMap, Literal, Object, Query, Refusal, Statement, TableSpec, Word};
+use dw_model::{
+    Answer, ColumnSpec, FileMap, Literal, Object, Query, Refusal, Statement, TableSpec, Word,
+};
 use dw_value::{Kind, List, Text};
 use std::alloc::{AllocError, Global};
 use std::test::Fail;
@@ -41,8 +43,7 @@ const CROSSED: &str =
     "open 1 1 0, created 1 1, commit 1 1 1 1 0, open 1 2 1, created 1 2, commit 1 2 2 2 0, begin 1 3, begin 2 1
 open 1 4 2, locked 1 4, open 2 2 2, locked 2 2, wait 1 5 2";
 
-const LOCKED: &str =
-    "open 1 1 0, created 1 1, commit 1 1 1 1 0, begin 1 2, open 1 3 1, locked 1 3";
+const LOCKED: &str = "open 1 1 0, created 1 1, commit 1 1 1 1 0, begin 1 2, open 1 3 1, locked 1 3";
 
 /// Scripts, one on each line; the number of sessions in the shape; the first events and those after them; and the
 /// verdict.

@@ -1,4 +1,4 @@
-use Rattle.std.proofs.Common.{◌≡◌, ◌<◌, List, length, sym, ap, ◌∙◌, arith, [], ◌∷◌}
+use Rattle.std.proofs.Common.{List, sym, ap, ◌∙◌, arith, [], ◌∷◌}
 use Rattle.std.specs.List.{position}
 use Rattle.dw_journal.specs.History.{History}
 use Rattle.dw_journal.specs.Locks.{sweep_lock}
