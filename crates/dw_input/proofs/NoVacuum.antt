@@ -8,7 +8,7 @@ use Rattle.dw_lex.specs.Reading.{read_tokens}
 use Rattle.dw_parse.specs.Reading.{read_statement}
 use Rattle.dw_script.specs.Statements.{statements}
 use Rattle.dw_model.specs.declared.statements.Statement.{Statement}
-use Rattle.dw_model.specs.declared.statements.Statement.TheVariants.{Create, Insert, Select, Begin, Commit, Rollback, Vacuum}
+use Rattle.dw_model.specs.declared.statements.Statement.TheVariants.{Create, Drop, Lock, Insert, Select, Begin, Commit, Rollback, Vacuum}
 use Rattle.dw_journal.specs.Worlds.{read_in, statement_at}
 use Rattle.dw_input.specs.Scripts.{given_of, given_of_form, given_of_statement, given_of_tokens, givens_of, world_of}
 
@@ -18,7 +18,9 @@ form_no_vacuum Commit table is = cc
 form_no_vacuum Rollback table is = cc
 form_no_vacuum (Vacuum swept) table is = cc
 form_no_vacuum (Create spec) table is = cc
-form_no_vacuum (Insert into rows) table is = cc
+form_no_vacuum (Drop dropped) table is = cc
+form_no_vacuum (Lock tables) table is = cc
+form_no_vacuum (Insert into columns rows) table is = cc
 form_no_vacuum (Select query) table is = cc
 
 statement_no_vacuum : (derived : Option Statement) (table : List ℕ) → read_in (Some (given_of_statement derived)) ≡ Some (Vacuum table) → ⊥
