@@ -11,7 +11,7 @@ ghost use Rattle.dw_journal.specs.Vacuums.{swept_by};
 ghost use Rattle.dw_journal.specs.Locks.{lock_state, wants_of};
 ghost use Rattle.dw_journal.specs.Turns.{AnswerOf, number_due, turn_of};
 ghost use Rattle.dw_journal.specs.Follows.{EachFollows, FollowsAfter};
-ghost use Rattle.dw_journal.specs.Legal.{IsLegal, IsLockWait, IsNextEvent, blockers_of, certified, cycle_of, high_of, low_of, snapshot_due};
+ghost use Rattle.dw_journal.specs.Legal.{EachIsLegal, IsLegal, IsLockWait, IsNextEvent, blockers_of, certified, cycle_of, high_of, low_of, snapshot_due};
 ghost use Rattle.dw_locks.specs.Holders.{exclusive_holder_by};
 ghost use Rattle.dw_locks.specs.Requests.{answer_by};
 ghost use Rattle.dw_core.specs.Asking.{HasWaited, IsAnswered, IsToAsk, wait_due};
@@ -131,6 +131,17 @@ impl Core {
                 None => (Next::End, 0),
             },
         }
+    }
+
+    /// The events so far follow from the scripts and are legal, in a warehouse with a session for each script, and no
+    /// vacuum runs. It does nothing.
+    pub fn is_legal(&self)
+        ensures follows { EachFollows self.now.shape self.now.world self.now.events }
+        ensures legal { EachIsLegal self.now.shape self.now.world self.now.events }
+        ensures shaped { self.now.shape.sessions ≡ session_count self.now.world }
+        ensures unswept { (other : ℕ) → swept_by other self.now.events ≡ None }
+    {
+        let _count = self.events.len();
     }
 
     /// What is due of the session.

@@ -1,5 +1,5 @@
 -- What is due of a session tells of its newest event: whether its script is at its end, and whether a statement is open.
-use Rattle.std.proofs.Common.{◌≡◌, ◌≢◌, ℕ, zero, suc, ◌+◌, ◌≤◌, Bool, true, false, List, [], ◌∷◌, refl, subst, arith}
+use Rattle.std.proofs.Common.{◌≡◌, ◌≢◌, ℕ, zero, suc, ◌+◌, ◌≤◌, Bool, true, false, List, [], ◌∷◌, refl, sym, subst, ◌∙◌, arith}
 use Rattle.std.specs.Prelude.{Option, Some, None, if◌then◌else◌}
 use Rattle.dw_journal.specs.declared.BlockState.{BlockState}
 use Rattle.dw_journal.specs.declared.BlockState.TheVariants.{Outside, Within, Aborted}
@@ -11,7 +11,15 @@ use Rattle.dw_journal.specs.Worlds.{given_at}
 use Rattle.dw_journal.specs.History.{History, is_of, is_end, newest_event, has_ended, statements_taken}
 use Rattle.dw_journal.specs.Blocks.{block_of}
 use Rattle.dw_journal.specs.Transactions.{Transaction, transaction_of, transaction_after, opened_in}
-use Rattle.dw_journal.specs.Turns.{Turn, Nothing, AnswerOf, SliceOf, SweepEndOf, turn_of, turn_after, taking}
+use Rattle.dw_journal.specs.Turns.{Turn, Nothing, AnswerOf, AtEnd, CommitOf, SliceOf, SweepEndOf, Taking, call_of, next_turn, number_due, turn_of, turn_after, taking}
+use Rattle.dw_core.specs.declared.cores.Next.{Next}
+use Rattle.dw_core.specs.declared.cores.Next.TheVariants as next
+use Rattle.dw_core.specs.Readers.{MeansTurn}
+
+-- nothing is due
+abbrev pub is_nothing : Next → Bool
+is_nothing next.Nothing = true
+is_nothing due = false
 
 abbrev is_opened : Option Event → Bool
 is_opened (Some (Opened session statement snapshot route)) = true
@@ -74,3 +82,19 @@ open_has session (event ∷ older) is = open_by session event older (is_of sessi
 pub answer_has : (history : History) (session k : ℕ) → 1 ≤ session → turn_of history session ≡ AnswerOf k → transaction_of session history.events ≢ None
 answer_has history session k some is =
     open_has session history.events (subst (λ (turn : Turn). Tells turn (newest_event session history.events)) is (told history session some))
+
+-- whether a session is at its end is told by what is due of it
+ended_turn : (shape : Shape) (block : BlockState) (newest : Option Event) (next : Turn) → is_end newest ≡ true → turn_after shape block newest next ≡ Nothing
+ended_turn shape block (Some (End session)) next is = refl
+ended_turn shape block newest next is = cc
+
+ended_by : (history : History) (session : ℕ) (b : Bool) → has_ended session history.events ≡ b → (turn_of history session ≡ Nothing → ⊥) → false ≡ b
+ended_by history session true is never = absurd (never (ended_turn history.shape (block_of history session) (newest_event session history.events) (next_turn history session) is))
+ended_by history session false is never = refl
+
+pub ended_told : (history : History) (session : ℕ) → 1 ≤ session → (due : Next) → MeansTurn history session due → is_nothing due ≡ has_ended session history.events
+ended_told history session some next.Nothing means = sym (ended_here history session some means)
+ended_told history session some next.Answer means = ended_by history session (has_ended session history.events) refl (λ none. let e : AnswerOf (number_due history session) ≡ Nothing = sym means.0 ∙ none in cc)
+ended_told history session some next.Commit means = ended_by history session (has_ended session history.events) refl (λ none. let e : CommitOf (number_due history session) ≡ Nothing = sym means.0 ∙ none in cc)
+ended_told history session some next.Take means = ended_by history session (has_ended session history.events) refl (λ none. let e : Taking (number_due history session) (call_of means.0) ≡ Nothing = sym means.2 ∙ none in cc)
+ended_told history session some next.End means = ended_by history session (has_ended session history.events) refl (λ none. let e : AtEnd ≡ Nothing = sym means ∙ none in cc)

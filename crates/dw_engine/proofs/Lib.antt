@@ -1,9 +1,10 @@
 mod Results
-mod DueTurns
-mod NextEvents
+pub mod DueTurns
+pub mod NextEvents
 pub mod StepLemmas
 mod ViewLemmas
 mod Replies
 mod Commits
 pub mod ScriptLemmas
-pub mod NoWants
+pub mod Stuck
+pub mod Asking

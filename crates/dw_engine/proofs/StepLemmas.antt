@@ -8,7 +8,7 @@ use Rattle.dw_journal.specs.Blocks.{block_of}
 use Rattle.dw_journal.specs.History.{History, session_of, with_event}
 use Rattle.dw_journal.specs.Legal.{IsNextEvent}
 use Rattle.dw_journal.specs.Progress.{waits_or_sweeps}
-use Rattle.dw_engine.specs.Steps.{IsStep, at_end, moved}
+use Rattle.dw_engine.specs.Steps.{IsStep, at_end, moved, repeats, waited}
 
 -- the core has this event more
 pub core_step : (session : ℕ) (event : Event) {engine core after : History} → core ≡ engine → after ≡ with_event core event
@@ -32,4 +32,6 @@ engine_block session is stands = ap (λ (h : History). block_of h session) (sym 
 -- a step leaves the world
 pub same_world : {session : ℕ} {before after : History} → IsStep session before after → after.world ≡ before.world
 same_world (at_end ended) = refl
+same_world (repeats again stuck) = refl
+same_world (waited holders next stuck) = refl
 same_world (moved event of_session plain next) = refl

@@ -16,7 +16,7 @@ use Rattle.dw_model.specs.Alone.{alone, change_of, next_of}
 use Rattle.dw_model.specs.Databases.{Tables}
 use Rattle.dw_model.specs.Files.{Files}
 use Rattle.dw_journal.specs.declared.Event.{Event}
-use Rattle.dw_journal.specs.declared.Event.TheVariants.{Begin, Pass, Opened, Answer}
+use Rattle.dw_journal.specs.declared.Event.TheVariants.{Begin, Pass, Wait, Opened, Answer}
 use Rattle.dw_journal.specs.declared.Route.{Route}
 use Rattle.dw_journal.specs.declared.Shape.{Shape}
 use Rattle.dw_journal.specs.declared.World.{World}
@@ -126,6 +126,9 @@ transaction_of-begin session k older other = same_both (session == other) (trans
 
 pub transaction_of-pass : (session k : ℕ) (word : Word) (older : List Event) (other : ℕ) → transaction_of other (Pass session k word ∷ older) ≡ transaction_of other older
 transaction_of-pass session k word older other = same_both (session == other) (transaction_of other older)
+
+pub transaction_of-wait : (session k : ℕ) (holders : List ℕ) (older : List Event) (other : ℕ) → transaction_of other (Wait session k holders ∷ older) ≡ transaction_of other older
+transaction_of-wait session k holders older other = same_both (session == other) (transaction_of other older)
 
 -- a further statement of a transaction is opened
 opened_further : (b : Bool) (snapshot session other : ℕ) (older : List Event) (transaction : Transaction) → (b ≡ true → session ≡ other)

@@ -1,10 +1,12 @@
 //! The engine: the core, with the databases that it is right about.
-ghost use Rattle.std.specs.Prelude.{◌≡◌, [], replicate, None, IfOk};
+ghost use Rattle.std.specs.Prelude.{◌≡◌, ℕ, [], replicate, None, IfOk};
 ghost use Rattle.dw_core.specs.Readers.{MeansTurn};
 ghost use Rattle.dw_journal.specs.Worlds.{AreShort, IsSession, session_count};
-ghost use Rattle.dw_journal.specs.History.{events_of};
+ghost use Rattle.dw_journal.specs.History.{events_of, has_ended};
 ghost use Rattle.dw_journal.specs.Contents.{contents};
-ghost use Rattle.dw_journal.specs.Legal.{IsLegal};
+ghost use Rattle.dw_journal.specs.Follows.{EachFollows};
+ghost use Rattle.dw_journal.specs.Legal.{EachIsLegal, IsLegal};
+ghost use Rattle.dw_journal.specs.Vacuums.{swept_by};
 ghost use Rattle.dw_engine.specs.EngineInvariant.{HaveNoVacuum};
 
 use dw_commit::View;
@@ -72,6 +74,25 @@ impl Engine {
         ensures { MeansTurn self.now session result }
     {
         self.core.next(session)
+    }
+
+    /// Whether the session's script is at its end.
+    pub fn has_ended(&self, session: u32) -> bool
+        requires session { IsSession self.now.world session }
+        ensures { result ≡ has_ended session self.now.events }
+    {
+        matches!(self.core.next(session), Next::Nothing)
+    }
+
+    /// The events so far follow from the scripts and are legal, in a warehouse with a session for each script, and no
+    /// vacuum runs. It does nothing.
+    pub fn is_legal(&self)
+        ensures follows { EachFollows self.now.shape self.now.world self.now.events }
+        ensures legal { EachIsLegal self.now.shape self.now.world self.now.events }
+        ensures shaped { self.now.shape.sessions ≡ session_count self.now.world }
+        ensures unswept { (session : ℕ) → swept_by session self.now.events ≡ None }
+    {
+        self.core.is_legal();
     }
 
     /// The newest committed database.

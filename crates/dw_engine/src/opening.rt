@@ -20,8 +20,7 @@ use dw_value::List;
 use std::alloc::AllocError;
 
 impl Engine {
-    /// The next statement is opened where its names and kinds fit what the session sees; else it is refused. In an
-    /// aborted block it is refused, too.
+    /// The next statement asks for its locks, and is opened once it has them. In an aborted block it is refused.
     pub(crate) fn open(&mut self, session: u32) -> Result<(), AllocError>
         requires session { IsSession self.old.world session }
         requires work { IsTakingWork self.old session }
@@ -30,29 +29,43 @@ impl Engine {
     {
         match self.core.block(session) {
             BlockState::Aborted => self.decline(session, Refusal::Aborted),
-            BlockState::Outside | BlockState::Within => {
-                self.ask(session)?;
-                match self.refusal_of(session)? {
-                    Some(refusal) => self.decline(session, refusal),
-                    None => self.opened(session),
-                }
-            }
+            BlockState::Outside | BlockState::Within => self.ask(session),
         }
     }
 
-    /// Asks for the locks of the next statement, which are granted: no statement that is run on what its session sees
-    /// wants a lock yet.
+    /// The next statement asks for its locks. Where other sessions hold locks in their way it waits for them, or is
+    /// refused where it would close a cycle; else it is opened.
     fn ask(&mut self, session: u32) -> Result<(), AllocError>
         requires session { IsSession self.old.world session }
         requires work { IsTakingWork self.old session }
         requires stands { block_of self.old session ≢ blocks.Aborted }
-        ensures granted { OnOk result (blockers_of self.old session (number_due self.old session) ≡ []) }
-        ensures same { self.new ≡ self.old }
+        ensures step { OnOk result (IsStep session self.old self.new) }
+        ensures err { OnErr result (self.new ≡ self.old) }
     {
         let wants = self.core.wants(session)?;
         match self.core.ask(session, &wants)? {
-            Asked::Granted => Ok(()),
-            Asked::Waits { .. } | Asked::Deadlock { .. } => unreachable!(),
+            Asked::Granted => self.open_granted(session),
+            Asked::Waits { .. } => Ok(()),
+            Asked::Deadlock { .. } => {
+                self.views[place_of(session)] = None;
+                Ok(())
+            }
+        }
+    }
+
+    /// The next statement, which no lock stands in the way of, is opened where its names and kinds fit what the session
+    /// sees; else it is refused.
+    fn open_granted(&mut self, session: u32) -> Result<(), AllocError>
+        requires session { IsSession self.old.world session }
+        requires work { IsTakingWork self.old session }
+        requires stands { block_of self.old session ≢ blocks.Aborted }
+        requires free { blockers_of self.old session (number_due self.old session) ≡ [] }
+        ensures step { OnOk result (IsStep session self.old self.new) }
+        ensures err { OnErr result (self.new ≡ self.old) }
+    {
+        match self.refusal_of(session)? {
+            Some(refusal) => self.decline(session, refusal),
+            None => self.opened(session),
         }
     }
 
