@@ -32,12 +32,12 @@ module _ (history : History) (session : ℕ) where
       let k = number_due history session in
       elim answered.1.2 [
         | inl again ↦ subst (IsStep session history) (sym again.1) (repeats (record {
-            statement = k;
-            holders = holders;
-            newest = again.0;
-            follows = answered.1.0;
-            waits = answered.1.1;
-          }) (stuck_again history session k holders again.0 answered.0))
+          statement = k;
+          holders = holders;
+          newest = again.0;
+          follows = answered.1.0;
+          waits = answered.1.1;
+        }) (stuck_again history session k holders again.0 answered.0))
         | inr now ↦ subst (IsStep session history) (sym now.1) (waited holders (answered.1.0, (answered.1.1, now.0)) (stuck_now history session k holders answered.0))
       ]
 

@@ -42,9 +42,7 @@ pub(crate) fn demand_of(core: &Core, session: u32) -> Result<Demand, AllocError>
             | Statement::Drop { .. }
             | Statement::Lock { .. }
             | Statement::Insert { .. }
-            | Statement::Select { .. } => Ok(
-                Demand::Work,
-            ),
+            | Statement::Select { .. } => Ok(Demand::Work),
             Statement::Vacuum { .. } => unreachable!(),
         },
         Some(Given::Refused(refusal)) => Ok(Demand::Foreign(refusal.copy()?)),

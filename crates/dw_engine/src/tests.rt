@@ -7,7 +7,9 @@ ghost use Rattle.dw_engine.specs.EngineInvariant.{HaveNoVacuum};
 
 use crate::{Engine, Next, Ran};
 use dw_journal::{Event, Given, Shape, World};
-use dw_model::{Answer, ColumnSpec, FileMap, Literal, Object, Query, Refusal, Statement, TableSpec};
+use dw_model::{
+    Answer, ColumnSpec, FileMap, Literal, Object, Query, Refusal, Statement, TableSpec,
+};
 use dw_value::{Kind, List, Text};
 use std::alloc::{AllocError, Global};
 use std::test::Fail;
@@ -112,6 +114,33 @@ insert t 2",
 17 rows 1 7 1",
         "t 1",
     ),
+    // Who writes a table's rows waits for another who does, and sees what that one committed. A wait that would be
+    // repeated is no event.
+    (
+        "create t; begin; insert t 1; commit
+insert t 2",
+        "111111221222",
+        "7 wait 2 1 for 1
+8 commit 1 4 2 2 1
+9 open 2 1 2
+11 commit 2 1 3 3 1
+13 end 2",
+        "t 2",
+    ),
+    // Two sessions lock two tables crosswise: the one whose wait would close the cycle is refused, and its locks go.
+    (
+        "create a; create b; begin; lock a; lock b; commit
+begin; lock b; lock a; commit",
+        "111111111222121112",
+        "13 wait 1 5 for 2
+14 refuse 2 3 10
+15 open 1 5 2
+17 commit 1 6 3 3 2
+18 rollback 2 4
+20 end 2",
+        "a 0
+b 0",
+    ),
     // A statement that isn't in the grammar is refused, and the script goes on.
     (
         "?; create t; insert t 1",
@@ -147,6 +176,12 @@ fn items(alloc: Global) -> Result<List<Text>, AllocError> {
     Ok(items)
 }
 
+fn only(alloc: Global, table: Text) -> Result<List<Text>, AllocError> {
+    let mut tables = List::new(alloc);
+    tables.push(table)?;
+    Ok(tables)
+}
+
 fn given(alloc: Global, text: &str) -> Result<Given, AllocError> {
     let mut words = text.split_whitespace();
     let form = words.next().unwrap_or("");
@@ -164,6 +199,9 @@ fn given(alloc: Global, text: &str) -> Result<Given, AllocError> {
             table,
             columns: List::new(alloc),
             rows: rows(alloc, literal)?,
+        }),
+        "lock" => Given::Read(Statement::Lock {
+            tables: only(alloc, table)?,
         }),
         "select" => {
             let query = Query {
@@ -293,6 +331,15 @@ fn kept_after(alloc: Global, text: &str, words: &str) -> Result<String, AllocErr
     Ok(kept)
 }
 
+/// The words, and then the sessions, a space before each.
+fn listed(alloc: Global, words: &str, sessions: &[u32]) -> Result<String, AllocError> {
+    let mut text = String::from_str(alloc, words)?;
+    for session in sessions {
+        text.push_str(format!(in alloc; " {session}")?.as_str())?;
+    }
+    Ok(text)
+}
+
 fn told(alloc: Global, event: &Event) -> Result<String, AllocError> {
     match event {
         Event::Begin { session, statement } => format!(in alloc; "begin {session} {statement}"),
@@ -301,6 +348,15 @@ fn told(alloc: Global, event: &Event) -> Result<String, AllocError> {
             statement,
             ..
         } => format!(in alloc; "pass {session} {statement}"),
+        Event::Wait {
+            session,
+            statement,
+            holders,
+        } => listed(
+            alloc,
+            format!(in alloc; "wait {session} {statement} for")?.as_str(),
+            holders.as_slice(),
+        ),
         Event::Opened {
             session,
             statement,
