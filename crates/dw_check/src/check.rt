@@ -52,12 +52,15 @@ pub fn top_check<F: Files, S: Sink>(
     files: &mut F,
     out: &mut S,
 ) -> Status
+    // Words.
     ensures usage { (result ≡ Status.Usage) ↔ (have_form words.now ≡ false) }
+    // Files, the sink and their faults.
     ensures keeps { F.held files.new ≡ F.held files.old }
     ensures files_count { F.faults files.old ≤ F.faults files.new }
     ensures out_count { S.faults out.old ≤ S.faults out.new }
     ensures read { result ≡ Status.ReadFault → Rose (F.faults files.old) (F.faults files.new) }
     ensures write { result ≡ Status.WriteFault → Rose (S.faults out.old) (S.faults out.new) }
+    // The status that is due, and what is told of a right report.
     ensures untouched { result ≢ Status.Ok → result ≢ Status.WriteFault → S.has out.new ≡ S.has out.old }
     ensures due { (h : Held) → F.held files.old ≡ Some h → MayAnswer (IsDue words.now h) result }
     ensures sound { (h : Held) → F.held files.old ≡ Some h → result ≡ Status.Ok →
