@@ -106,6 +106,8 @@ const CALLS: &str =
 1 x.a: granted; 2 x.b: granted; 1 x.b: waits 2; 1 release: done; 2 x.a: granted
 1 x.a: granted; 1 x.b: granted; 1 withdraw: done; 2 x.b: granted; 3 x.a: waits 1; holder a: 1; 1 withdraw: kept
 1 x.a: granted; 2 x.b: granted; 1 x.b: waits 2; 1 s.c: granted; 1 withdraw: done; 2 x.a: deadlock 2 1
+1 x.a: granted; 2 wait x.a: done; 3 x.b: granted; 3 wait x.c: done; 1 x.b: waits 3; 1 release: done; 2 x.a: granted
+1 x.a: granted; 2 x.b: granted; 2 wait x.a: done; 1 x.b: deadlock 1 2; 2 withdraw: kept; 2 x.c: granted; 1 x.b: waits 2
 1 s.a: granted; 1 s.a s.b: granted; 1 withdraw: done; 2 x.b: granted; 2 x.a: waits 1; 1 release: done; 2 x.a: granted
 5 x.a: no session";
 
@@ -125,6 +127,15 @@ fn want_of(alloc: Global, word: &str) -> Result<Want, AllocError> {
     })
 }
 
+/// The locks of these words.
+fn wants_of(alloc: Global, words: &str) -> Result<List<Want>, AllocError> {
+    let mut wants = List::new(alloc);
+    for word in words.split(' ') {
+        wants.push(want_of(alloc, word)?)?;
+    }
+    Ok(wants)
+}
+
 /// The word, and then the sessions, a space before each.
 fn listed(alloc: Global, word: &str, sessions: &[u32]) -> Result<String, AllocError> {
     let mut text = String::from_str(alloc, word)?;
@@ -139,10 +150,7 @@ fn listed(alloc: Global, word: &str, sessions: &[u32]) -> Result<String, AllocEr
 fn asked(alloc: Global, locks: &mut Locks, session: u32, words: &str) -> Result<String, AllocError>
     requires { session < length locks.old }
 {
-    let mut wants = List::new(alloc);
-    for word in words.split(' ') {
-        wants.push(want_of(alloc, word)?)?;
-    }
+    let wants = wants_of(alloc, words)?;
     let foretold = told(alloc, locks.answer(session, &wants)?)?;
     let answer = told(alloc, locks.request(session, &wants)?)?;
     if foretold.as_str() != answer.as_str() {
@@ -181,6 +189,10 @@ fn answer_of(alloc: Global, locks: &mut Locks, call: &str) -> Result<String, All
     }
     if rest == "release" {
         locks.release(session);
+        return String::from_str(alloc, "done");
+    }
+    if let Some(words) = rest.strip_prefix("wait ") {
+        locks.wait(session, &wants_of(alloc, words)?)?;
         return String::from_str(alloc, "done");
     }
     if rest == "withdraw" {
