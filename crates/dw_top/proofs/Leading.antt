@@ -1,14 +1,16 @@
 -- Steps lead from one history to another.
-use Rattle.std.proofs.Common.{inl, ◌≡◌, ℕ, true, List, [], ◌∷◌, ◌++◌, reverse, refl, sym, ap, subst, ◌∙◌, append_assoc}
+use Rattle.std.proofs.Common.{inl, inr, ◌≡◌, ℕ, true, List, [], ◌∷◌, ◌++◌, reverse, refl, sym, ap, subst, ◌∙◌, append_assoc}
 use Rattle.std.proofs.lemmas.List.{append-nil}
 use Rattle.dw_journal.specs.declared.Event.{Event}
+use Rattle.dw_journal.specs.declared.Event.TheVariants.{Wait}
 use Rattle.dw_journal.specs.declared.Journal.{Journal}
 use Rattle.dw_journal.specs.declared.Shape.{Shape}
 use Rattle.dw_journal.specs.declared.World.{World}
 use Rattle.dw_journal.specs.Worlds.{IsSession, session_count}
 use Rattle.dw_journal.specs.History.{History, events_of, has_ended}
+use Rattle.dw_journal.specs.Turns.{number_due}
 use Rattle.dw_journal.specs.Driven.{Move, OfSession, rounds_of, Steps, none, more, nothing, event as step_event, IsDriven}
-use Rattle.dw_engine.specs.Steps.{IsStep, at_end, moved}
+use Rattle.dw_engine.specs.Steps.{IsStep, at_end, repeats, waited, moved}
 use Rattle.dw_top.specs.Rounds.{Leads}
 
 -- no move leads anywhere
@@ -18,6 +20,9 @@ leads_none history = record { shape = refl; world = refl; steps = λ earlier h. 
 -- a step leads by its session's move
 pub leads_step : {session : ℕ} {before after : History} → IsStep session before after → Leads (OfSession session ∷ []) before after
 leads_step (at_end ended) = record { shape = refl; world = refl; steps = λ earlier h. more h (nothing (inl ended)) }
+leads_step (repeats again stuck) = record { shape = refl; world = refl; steps = λ earlier h. more h (nothing (inr again)) }
+leads_step {session} {before} (waited holders comes stuck) =
+    record { shape = refl; world = refl; steps = λ earlier h. more h (step_event (Wait session (number_due before session) holders) refl comes) }
 leads_step (moved next is_own plain comes) = record { shape = refl; world = refl; steps = λ earlier h. more h (step_event next is_own comes) }
 
 -- one lot of moves after another

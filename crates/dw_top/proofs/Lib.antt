@@ -3,3 +3,4 @@ pub mod Nearing
 pub mod ScheduleMoves
 pub mod Reported
 pub mod Scripted
+pub mod Ending

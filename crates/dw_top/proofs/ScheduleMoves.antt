@@ -6,7 +6,8 @@ use Rattle.dw_script.specs.Schedule.{steps_of}
 use Rattle.dw_journal.specs.History.{History}
 use Rattle.dw_journal.specs.Driven.{Move, OfSession}
 use Rattle.dw_top.specs.Run.{moves_of}
-use Rattle.dw_top.proofs.Nearing.{Onward, onward_then}
+use Rattle.dw_top.specs.Rounds.{Leads}
+use Rattle.dw_top.proofs.Leading.{leads_then}
 
 copies_end : (n : ℕ) (move : Move) → replicate n move ++ move ∷ [] ≡ move ∷ replicate n move
 copies_end zero move = refl
@@ -42,10 +43,10 @@ moves_more (x ∷ xs) (suc place) d within =
     ∙ ap (λ (moves : List Move). replicate entry.count (OfSession entry.session) ++ moves) (sym (moves_after x (take place xs)))
 
 -- one more entry of a schedule
-pub onward_moves : (entries : List Entry) (place : ℕ) (d : Entry) {a b c : History} → place < length entries
-    → Onward (reverse (moves_of (take place entries))) a b
-    → Onward (replicate (slice_index_or entries place d).count (OfSession (slice_index_or entries place d).session)) b c
-    → Onward (reverse (moves_of (take (place + 1) entries))) a c
-onward_moves entries place d {a} {b} {c} within x y =
-    subst (λ (n : ℕ). Onward (reverse (moves_of (take n entries))) a c) (sym (add-one place))
-    (subst (λ (moves : List Move). Onward moves a c) (sym (moves_more entries place d within)) (onward_then x y))
+pub leads_moves : (entries : List Entry) (place : ℕ) (d : Entry) {a b c : History} → place < length entries
+    → Leads (reverse (moves_of (take place entries))) a b
+    → Leads (replicate (slice_index_or entries place d).count (OfSession (slice_index_or entries place d).session)) b c
+    → Leads (reverse (moves_of (take (place + 1) entries))) a c
+leads_moves entries place d {a} {b} {c} within x y =
+    subst (λ (n : ℕ). Leads (reverse (moves_of (take n entries))) a c) (sym (add-one place))
+    (subst (λ (moves : List Move). Leads moves a c) (sym (moves_more entries place d within)) (leads_then x y))

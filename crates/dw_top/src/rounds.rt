@@ -1,24 +1,20 @@
 //! Steps one after another: those of a schedule's moves, and rounds in which each session takes one.
-ghost use Rattle.std.specs.Prelude.{◌≡◌, ◌+◌, ◌*◌, ◌<◌, ◌≤◌, ◌^◌, ℕ, suc, true, length, slice_get, reverse, replicate, List as Items, Some, OnOk, All};
+ghost use Rattle.std.specs.Prelude.{◌≡◌, ◌<◌, ℕ, true, false, reverse, replicate, OnOk, All};
 ghost use Rattle.dw_script.specs.Schedule.{IsMove};
-ghost use Rattle.dw_journal.specs.declared.Given.{Given as Statement};
-ghost use Rattle.dw_journal.specs.Worlds.{AreShort, IsSession, session_count};
+ghost use Rattle.dw_journal.specs.Worlds.{IsSession, session_count};
 ghost use Rattle.dw_journal.specs.History.{has_ended};
 ghost use Rattle.dw_journal.specs.Driven.{OfSession, round_of, rounds_of};
-ghost use Rattle.dw_top.specs.Rounds.{Leads, AreNear};
+ghost use Rattle.dw_top.specs.Rounds.{Leads, SomeoneIsLeft, total_left};
 ghost use Rattle.dw_top.specs.Run.{moves_of};
 
 use dw_engine::Engine;
-use dw_journal::Given;
 use dw_script::Move;
-use dw_value::List;
 use std::alloc::AllocError;
 
 /// So many steps of one session.
 fn take_steps(engine: &mut Engine, session: u32, count: u32) -> Result<(), AllocError>
     requires session { IsSession engine.old.world session }
-    ensures leads { OnOk result (Leads (replicate count (OfSession session)) engine.old engine.new) }
-    ensures near { OnOk result ((bound : ℕ) → AreNear bound engine.old → AreNear bound engine.new) }
+    ensures { OnOk result (Leads (replicate count (OfSession session)) engine.old engine.new) }
 {
     for _ in 0..count {
         engine.step(session)?;
@@ -29,8 +25,7 @@ fn take_steps(engine: &mut Engine, session: u32, count: u32) -> Result<(), Alloc
 /// The steps of these moves, in their order.
 pub(crate) fn take_moves(engine: &mut Engine, moves: &[Move]) -> Result<(), AllocError>
     requires moves { All (IsMove (session_count engine.old.world)) moves.now }
-    ensures leads { OnOk result (Leads (reverse (moves_of moves.now)) engine.old engine.new) }
-    ensures near { OnOk result ((bound : ℕ) → AreNear bound engine.old → AreNear bound engine.new) }
+    ensures { OnOk result (Leads (reverse (moves_of moves.now)) engine.old engine.new) }
 {
     for place in 0..moves.len() {
         take_steps(engine, moves[place].session, moves[place].count)?;
@@ -38,39 +33,43 @@ pub(crate) fn take_moves(engine: &mut Engine, moves: &[Move]) -> Result<(), Allo
     Ok(())
 }
 
-/// One step of each of so many sessions, in ascending number. It brings each session nearer to its end.
+/// One step of each of so many sessions, in ascending number. While somebody isn't at the end of the script, it brings the
+/// run nearer to its end.
 fn take_round(engine: &mut Engine, sessions: u32) -> Result<(), AllocError>
     requires sessions { sessions ≡ session_count engine.old.world }
+    requires left { SomeoneIsLeft engine.old }
     ensures leads { OnOk result (Leads (round_of sessions) engine.old engine.new) }
-    ensures near { OnOk result ((bound : ℕ) → AreNear (suc bound) engine.old → AreNear bound engine.new) }
+    ensures nearer { OnOk result (total_left engine.new sessions < total_left engine.old sessions) }
 {
     for before in 0..sessions {
         engine.step(before + 1)?;
     }
+    engine.is_legal();
     Ok(())
 }
 
-/// So many rounds, which bring each session to its end where it has fewer events than that before it.
-pub(crate) fn take_rounds(engine: &mut Engine, sessions: u32, rounds: u64) -> Result<(), AllocError>
+/// Whether all of so many sessions are at the end of their scripts.
+fn have_ended(engine: &Engine, sessions: u32) -> bool
+    requires sessions { sessions ≡ session_count engine.now.world }
+    ensures ended { result ≡ true → (session : ℕ) → IsSession engine.now.world session → has_ended session engine.now.events ≡ true }
+    ensures left { result ≡ false → SomeoneIsLeft engine.now }
+{
+    for before in 0..sessions {
+        if !engine.has_ended(before + 1) {
+            return false;
+        }
+    }
+    true
+}
+
+/// Rounds until all sessions are at the end of their scripts.
+pub(crate) fn take_rounds(engine: &mut Engine, sessions: u32) -> Result<(), AllocError>
     requires sessions { sessions ≡ session_count engine.old.world }
-    requires near { AreNear rounds engine.old }
-    ensures leads { OnOk result (Leads (rounds_of sessions rounds) engine.old engine.new) }
+    ensures leads { OnOk result ((rounds : ℕ) × Leads (rounds_of sessions rounds) engine.old engine.new) }
     ensures ends { OnOk result ((session : ℕ) → IsSession engine.old.world session → has_ended session engine.new.events ≡ true) }
 {
-    for _ in 0..rounds {
+    while !have_ended(engine, sessions) {
         take_round(engine, sessions)?;
     }
     Ok(())
-}
-
-/// So many rounds as no session has events: up to three for each statement of its script, and its end.
-pub(crate) fn rounds_for(scripts: &[List<Given>]) -> u64
-    requires short { AreShort scripts.now }
-    ensures { (place : ℕ) (script : Items Statement) → slice_get scripts.now place ≡ Some script → 3 * length script + 1 < result }
-{
-    let mut longest = 0;
-    for script in scripts {
-        longest = longest.max(script.len() as u64);
-    }
-    3 * longest + 2
 }

@@ -9,7 +9,7 @@ ghost use Rattle.dw_journal.specs.Driven.{IsDriven};
 ghost use Rattle.dw_engine.specs.EngineInvariant.{HaveNoVacuum};
 ghost use Rattle.dw_top.specs.Run.{moves_of};
 
-use crate::rounds::{rounds_for, take_moves, take_rounds};
+use crate::rounds::{take_moves, take_rounds};
 use dw_engine::{Engine, Ran};
 use dw_journal::{Shape, World};
 use dw_script::Move;
@@ -31,9 +31,8 @@ pub(crate) fn run_scripts(alloc: Global, world: World, moves: &[Move]) -> Result
     ensures database { IfOk result (λ ran. ran.database ≡ contents (history_of world ran.journal)) }
 {
     let sessions = world.scripts.len() as u32;
-    let rounds = rounds_for(world.scripts.as_slice());
     let mut engine = Engine::new(alloc, Shape::standard(sessions), world)?;
     take_moves(&mut engine, moves)?;
-    take_rounds(&mut engine, sessions, rounds)?;
+    take_rounds(&mut engine, sessions)?;
     Ok(engine.into_parts())
 }
