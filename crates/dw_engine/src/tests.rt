@@ -123,7 +123,7 @@ insert t 2",
         "7 wait 2 1 for 1
 8 commit 1 4 2 2 1
 9 open 2 1 2
-11 commit 2 1 3 3 1
+11 commit 2 1 3 3 2
 13 end 2",
         "t 2",
     ),
