@@ -16,7 +16,7 @@ use std::test::Fail;
 
 /// Scripts, one on each line; a schedule, which is a list of sessions that take a step each, until the sessions take
 /// turns; some events of the run, each after its number; and tables with the number of their rows.
-const RUNS: [(&str, &str, &str, &str); 9] = [
+const RUNS: [(&str, &str, &str, &str); 11] = [
     // Each of two sessions reads what the other writes: the second commit is a violation.
     (
         "create a; create b; begin; select a; insert b 1; commit
