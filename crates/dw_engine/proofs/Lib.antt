@@ -4,7 +4,7 @@ pub mod NextEvents
 pub mod StepLemmas
 mod ViewLemmas
 mod Replies
-mod Commits
+pub mod Commits
 pub mod ScriptLemmas
 pub mod Stuck
 pub mod Asking

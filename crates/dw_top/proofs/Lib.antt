@@ -4,3 +4,6 @@ pub mod ScheduleMoves
 pub mod Reported
 pub mod Scripted
 pub mod Ending
+pub mod ExistingRefusals
+pub mod ExistingTurns
+pub mod ExistingSteps

@@ -1,3 +1,4 @@
 pub mod Due
 pub mod Run
 pub mod Rounds
+pub mod Existing
