@@ -7,3 +7,5 @@ pub mod Ending
 pub mod ExistingRefusals
 pub mod ExistingTurns
 pub mod ExistingSteps
+pub mod ExistingRuns
+pub mod ExistingCalls

@@ -5,6 +5,7 @@
 //! machine's files and the standard output, and prints its status.
 #![tactic(auto)]
 
+mod laws;
 mod rounds;
 mod run;
 mod top;
