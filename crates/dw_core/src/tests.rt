@@ -176,13 +176,14 @@ fn is_granted(core: &mut Core, session: u32) -> Result<bool, AllocError>
     }
 }
 
-/// An INSERT wants no lock yet, so it is granted what it wants, nothing happens, and nobody holds its table.
+/// An INSERT in whose way nobody stands: nothing happens yet, and nobody holds its table alone.
 #[test]
 fn locks_are_asked_for(rt: HostRuntime) -> Result<(), Fail> {
     let alloc = rt.alloc();
     let mut first = List::new(alloc);
     first.push(Given::Read(Statement::Insert {
         table: Text::from_str(alloc, "a")?,
+        columns: List::new(alloc),
         rows: List::new(alloc),
     }))?;
     let second = script(alloc, "")?;
