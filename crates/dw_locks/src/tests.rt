@@ -276,28 +276,31 @@ fn wants_text(alloc: Global, wants: &[Want]) -> Result<String, AllocError> {
     Ok(told)
 }
 
+/// What each form of statement wants.
+const WANTS: &str = "vacuum => share a
+create => whole a
+drop => whole a
+lock => whole b whole a
+insert => write a
+select => share a
+begin =>
+commit =>
+rollback =>";
+
+/// What a statement wants, in words.
+fn wanted(alloc: Global, form: &str) -> Result<String, AllocError> {
+    let given = Given::Read(statement(alloc, form)?);
+    let wants = wants(alloc, Some(&given))?;
+    wants_text(alloc, wants.as_slice())
+}
+
 /// What each form of statement wants; what the grammar refused wants nothing.
 #[test]
 fn statements_want_their_locks(rt: HostRuntime) -> Result<(), Fail> {
     let alloc = rt.alloc();
-    for (form, wanted) in [
-        ("vacuum", " share a"),
-        ("create", " whole a"),
-        ("drop", " whole a"),
-        ("lock", " whole b whole a"),
-        ("insert", " write a"),
-        ("select", " share a"),
-        ("begin", ""),
-        ("commit", ""),
-        ("rollback", ""),
-    ] {
-        let given = Given::Read(statement(alloc, form)?);
-        let wants = wants(alloc, Some(&given))?;
-        assert_eq!(rt;
-            wants_text(alloc, wants.as_slice())?.as_str(),
-            wanted,
-            "{form}"
-        );
+    for line in WANTS.lines() {
+        let (form, locks) = line.split_once(" =>").ok_or("a row has two parts")?;
+        assert_eq!(rt; wanted(alloc, form)?.as_str(), locks, "{line}");
     }
     let refused = Given::Refused(Refusal::Clash);
     assert_eq!(rt; wants(alloc, Some(&refused))?.len(), 0);
