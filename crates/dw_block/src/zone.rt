@@ -1,10 +1,9 @@
 //! Zones: the least and the greatest value of a block, and how many NULLs it has.
 ghost use Rattle.std.specs.Prelude.{◌≡◌, ◌≤◌, length, IfOk};
 ghost use Rattle.std.specs.Option.{option_copied};
-ghost use Rattle.std.specs.List.{count_by};
 ghost use Rattle.std.specs.Ordering.{flip_args};
-ghost use Rattle.dw_value.specs.Values.{value_cmp, is_null};
-ghost use Rattle.dw_block.specs.Zones.{earlier, least_of, greatest_of, zone_of, may_hold, may_match, HasScale};
+ghost use Rattle.dw_value.specs.Values.{value_cmp};
+ghost use Rattle.dw_block.specs.Zones.{earlier, zone_of, may_hold, may_match, HasScale};
 
 use dw_value::{Comparison, Value, compare};
 use std::alloc::AllocError;
@@ -37,17 +36,6 @@ pub enum Test {
     NotNull,
 }
 
-/// The least value that isn't NULL.
-fn least(values: &[Value]) -> Option<&Value>
-    ensures { option_copied result ≡ least_of values.now }
-{
-    let mut least: Option<&Value> = None;
-    for value in values {
-        least = lesser(least, value);
-    }
-    least
-}
-
 /// Of the least value so far and one more, the least, where NULL is passed over.
 fn lesser<'a>(least: Option<&'a Value>, value: &'a Value) -> Option<&'a Value>
     ensures { option_copied result ≡ earlier value_cmp (option_copied least.entry) value.now }
@@ -61,17 +49,6 @@ fn lesser<'a>(least: Option<&'a Value>, value: &'a Value) -> Option<&'a Value>
     }
 }
 
-/// The greatest value that isn't NULL.
-fn greatest(values: &[Value]) -> Option<&Value>
-    ensures { option_copied result ≡ greatest_of values.now }
-{
-    let mut greatest: Option<&Value> = None;
-    for value in values {
-        greatest = greater(greatest, value);
-    }
-    greatest
-}
-
 /// Of the greatest value so far and one more, the greatest, where NULL is passed over.
 fn greater<'a>(greatest: Option<&'a Value>, value: &'a Value) -> Option<&'a Value>
     ensures { option_copied result ≡ earlier (flip_args value_cmp) (option_copied greatest.entry) value.now }
@@ -83,20 +60,6 @@ fn greater<'a>(greatest: Option<&'a Value>, value: &'a Value) -> Option<&'a Valu
         Some(found) if found.cmp(value).is_ge() => greatest,
         _ => Some(value),
     }
-}
-
-/// How many of the values are NULL.
-fn null_count(values: &[Value]) -> u32
-    requires { length values.now ≤ 4096 }
-    ensures { result ≡ count_by is_null values.now }
-{
-    let mut nulls = 0;
-    for value in values {
-        if value.is_null() {
-            nulls += 1;
-        }
-    }
-    nulls
 }
 
 /// A copy of the value, if there is one.
@@ -114,9 +77,18 @@ pub fn zone_of(values: &[Value]) -> Result<Zone, AllocError>
     requires { length values.now ≤ 4096 }
     ensures { IfOk result (λ zone. zone ≡ zone_of values.now) }
 {
-    let least = copy_of(least(values))?;
-    let greatest = copy_of(greatest(values))?;
-    let nulls = null_count(values);
+    let mut least: Option<&Value> = None;
+    let mut greatest: Option<&Value> = None;
+    let mut nulls = 0;
+    for value in values {
+        least = lesser(least, value);
+        greatest = greater(greatest, value);
+        if value.is_null() {
+            nulls += 1;
+        }
+    }
+    let least = copy_of(least)?;
+    let greatest = copy_of(greatest)?;
     Ok(Zone {
         least,
         greatest,
