@@ -1,0 +1,19 @@
+//! Names bound to columns: expressions over the columns in sight.
+#![tactic(auto)]
+
+mod binding;
+mod branches;
+mod comparisons;
+mod faults;
+mod nodes;
+mod operands;
+mod operations;
+mod sight;
+mod unknown;
+mod walk;
+
+pub use binding::bind_expression;
+pub use sight::Sight;
+
+#[cfg(test)]
+mod tests;

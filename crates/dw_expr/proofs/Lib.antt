@@ -1,0 +1,7 @@
+pub mod Bringing
+mod Constants
+pub mod Disjunctions
+mod Expanded
+mod Faultless
+mod Negations
+pub mod SameValues
