@@ -1,6 +1,3 @@
-mod ListLemmas
 mod TableLemmas
-mod FoundLemmas
-mod PieceLemmas
 mod CreateLemmas
 mod StatementLemmas

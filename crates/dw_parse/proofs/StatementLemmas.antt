@@ -14,16 +14,16 @@ use Rattle.dw_model.specs.declared.statements.Statement.{Statement}
 use Rattle.dw_model.specs.declared.statements.Statement.TheVariants.{Begin, Commit, Rollback, Create, Drop, Lock, Insert, Select}
 use Rattle.dw_parse.specs.declared.parts.Part.{Part}
 use Rattle.dw_parse.specs.declared.parts.Attribute.{Attribute}
-use Rattle.dw_parse.specs.Words.{is_sign, is_sign_at, comparison_of, word_at, sign_at, name_at}
+use Rattle.dw_parse_words.specs.Words.{is_sign, is_sign_at, comparison_of, word_at, sign_at, name_at}
 use Rattle.dw_parse.specs.Tables.{columns_in, table_made}
-use Rattle.dw_parse.specs.PieceReading.{listed_at, repeated_at, table_at, named_at, maybe_names_at, literal_at, tuple_at}
+use Rattle.dw_parse_words.specs.PieceReading.{listed_at, repeated_at, table_at, named_at, maybe_names_at, literal_at, tuple_at}
 use Rattle.dw_parse.specs.CreateReading.{part_at, attribute_at}
 use Rattle.dw_parse.specs.Reading.{create_of, create_with, create_after, read_create, drop_after, read_drop, lock_of, lock_from, read_lock, insert_of, insert_values, insert_after, read_insert, test_of, test_at, condition_at, select_of, select_after, read_select, is_rest, block_word, read_block, read_statement}
-use Rattle.dw_parse.specs.Pieces.{Listed, Repeated, IsTable}
+use Rattle.dw_parse_words.specs.Pieces.{Listed, Repeated, IsTable}
 use Rattle.dw_parse.specs.CreateGrammar.{IsAttribute}
 use Rattle.dw_parse.specs.Grammar.{IsCondition, absent, where_is, IsRest, ended, transaction, work, Derives, begin, start, commit, end, rollback, abort, create, drop, lock, lock_table, insert, select}
-use Rattle.dw_parse.proofs.FoundLemmas.{and_both, or_either, one_word, word_no_sign, past_sign, past_word, open_dot, sign_within, Sound, sound_some, sound_if, sound_when, sound_bind, sound_map}
-use Rattle.dw_parse.proofs.PieceLemmas.{named_list_complete, named_list_sound, table_complete, table_sound, table_list_complete, table_list_sound, table_list_no_word, maybe_names_complete, maybe_names_dot, maybe_names_sound, literal_complete, literal_sound, tuples_complete, tuples_sound}
+use Rattle.dw_parse_words.proofs.FoundLemmas.{and_both, or_either, one_word, word_no_sign, past_sign, past_word, open_dot, sign_within, Sound, sound_some, sound_if, sound_when, sound_bind, sound_map}
+use Rattle.dw_parse_words.proofs.PieceLemmas.{named_list_complete, named_list_sound, table_complete, table_sound, table_list_complete, table_list_sound, table_list_no_word, maybe_names_complete, maybe_names_dot, maybe_names_sound, literal_complete, literal_sound, tuples_complete, tuples_sound}
 use Rattle.dw_parse.proofs.CreateLemmas.{parts_complete, parts_sound, attributes_complete, attributes_sound}
 
 -- the condition

@@ -1,14 +1,12 @@
--- The grammar of CREATE TABLE between its parentheses and after them: kinds, columns with options, constraints,
--- attributes. After the Amazon Redshift guide (CREATE TABLE, data types).
+-- The grammar of CREATE TABLE between its parentheses and after them: columns with options, constraints, attributes.
+-- After the Amazon Redshift guide (CREATE TABLE).
 use Rattle.std.specs.Prelude.{◌≡◌, ℕ, ◌+◌, true, ◌||◌, Some, List, codes}
 use Rattle.dw_lex.specs.declared.token.Token.{Token}
 use Rattle.dw_lex.specs.declared.signs.Sign.TheVariants as mark
 use Rattle.dw_value.specs.declared.kinds.Encoding.{Encoding}
 use Rattle.dw_value.specs.declared.kinds.Kind.{Kind}
-use Rattle.dw_value.specs.declared.kinds.Kind.TheVariants as kinds
 use Rattle.dw_model.specs.declared.statements.Literal.{Literal}
 use Rattle.dw_model.specs.declared.statements.StyleWord.{StyleWord}
-use Rattle.dw_parse.specs.declared.parts.KindWord.TheVariants as kind_words
 use Rattle.dw_parse.specs.declared.parts.OptionWord.TheVariants as option_words
 use Rattle.dw_parse.specs.declared.parts.ColumnOption.{ColumnOption}
 use Rattle.dw_parse.specs.declared.parts.ColumnOption.TheVariants as option
@@ -18,40 +16,11 @@ use Rattle.dw_parse.specs.declared.parts.Part.TheVariants.{Column, Constraint}
 use Rattle.dw_parse.specs.declared.parts.AttributeWord.TheVariants as attribute_words
 use Rattle.dw_parse.specs.declared.parts.Attribute.{Attribute}
 use Rattle.dw_parse.specs.declared.parts.Attribute.TheVariants as attribute
-use Rattle.dw_parse.specs.Words.{is_sign_at, word_at, name_at}
-use Rattle.dw_parse.specs.Kinds.{kind_word, encoding_at, length_in, precision_at, scale_at}
+use Rattle.dw_parse_words.specs.Words.{is_sign_at, word_at, name_at}
+use Rattle.dw_parse_words.specs.Kinds.{encoding_at}
+use Rattle.dw_parse_words.specs.KindGrammar.{IsKind}
 use Rattle.dw_parse.specs.Tables.{option_word, part_word_at, attribute_word_at, style_word}
-use Rattle.dw_parse.specs.Pieces.{Repeated, IsTable, IsNames, IsMaybeNames, IsLiteral}
-
--- `[( n )]` or `[( max )]`: how many bytes a text may have, where so many are the most, and where none are written
-pub data IsLength (limit unwritten : ℕ) (tokens : List Token) : ℕ → ℕ → ℕ → Type 0 where
-  absent : {i : ℕ} → IsLength limit unwritten tokens i unwritten i
-  present : {i n : ℕ} → is_sign_at mark.Open tokens i ≡ true → length_in limit tokens (i + 1) ≡ Some n
-      → is_sign_at mark.Close tokens (i + 2) ≡ true → IsLength limit unwritten tokens i n (i + 3)
-
--- `[( p )]` or `[( p , s )]`: how many digits a DECIMAL has, and how many of them after the point
-pub data IsDigits (tokens : List Token) : ℕ → ℕ × ℕ → ℕ → Type 0 where
-  absent : {i : ℕ} → IsDigits tokens i (18, 0) i
-  whole : {i p : ℕ} → is_sign_at mark.Open tokens i ≡ true → precision_at tokens (i + 1) ≡ Some p
-      → is_sign_at mark.Close tokens (i + 2) ≡ true → IsDigits tokens i (p, 0) (i + 3)
-  scaled : {i p s : ℕ} → is_sign_at mark.Open tokens i ≡ true → precision_at tokens (i + 1) ≡ Some p
-      → is_sign_at mark.Comma tokens (i + 2) ≡ true → scale_at p tokens (i + 3) ≡ Some s
-      → is_sign_at mark.Close tokens (i + 4) ≡ true → IsDigits tokens i (p, s) (i + 5)
-
--- a kind: one word; `decimal` or `numeric` with its digits; `char`, `character`, `varchar` or `character varying` with
--- its length
-pub data IsKind (tokens : List Token) : ℕ → Kind → ℕ → Type 0 where
-  plain : {i : ℕ} {kind : Kind} → kind_word tokens i ≡ Some (kind_words.Plain kind) → IsKind tokens i kind (i + 1)
-  decimal : {i j : ℕ} {digits : ℕ × ℕ} → kind_word tokens i ≡ Some kind_words.Decimal
-      → IsDigits tokens (i + 1) digits j → IsKind tokens i (kinds.Decimal digits.0 digits.1) j
-  char : {i j n : ℕ} → kind_word tokens i ≡ Some kind_words.Char → IsLength 4096 1 tokens (i + 1) n j
-      → IsKind tokens i (kinds.Char n) j
-  character : {i j n : ℕ} → kind_word tokens i ≡ Some kind_words.Character → IsLength 4096 1 tokens (i + 1) n j
-      → IsKind tokens i (kinds.Char n) j
-  varchar : {i j n : ℕ} → kind_word tokens i ≡ Some kind_words.Varchar → IsLength 65535 256 tokens (i + 1) n j
-      → IsKind tokens i (kinds.Varchar n) j
-  varying : {i j n : ℕ} → kind_word tokens i ≡ Some kind_words.Character → word_at (codes "varying") tokens (i + 1) ≡ true
-      → IsLength 65535 256 tokens (i + 2) n j → IsKind tokens i (kinds.Varchar n) j
+use Rattle.dw_parse_words.specs.Pieces.{Repeated, IsTable, IsNames, IsMaybeNames, IsLiteral}
 
 -- `[not] null`, `default literal`, `encode encoding`, `distkey`, `sortkey`, `primary key`, `unique` or
 -- `references table [names]`

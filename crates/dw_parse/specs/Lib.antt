@@ -1,11 +1,6 @@
-pub mod Words
-pub mod Literals
-pub mod Kinds
 pub mod Tables
-pub mod PieceReading
 pub mod CreateReading
 pub mod Reading
-pub mod Pieces
 pub mod CreateGrammar
 pub mod Grammar
 pub mod Gives

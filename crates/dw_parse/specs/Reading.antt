@@ -10,9 +10,9 @@ use Rattle.dw_model.specs.declared.statements.Statement.{Statement}
 use Rattle.dw_model.specs.declared.statements.Statement.TheVariants.{Begin, Commit, Rollback, Create, Drop, Lock, Insert, Select}
 use Rattle.dw_parse.specs.declared.parts.Part.{Part}
 use Rattle.dw_parse.specs.declared.parts.Attribute.{Attribute}
-use Rattle.dw_parse.specs.Words.{is_sign_at, comparison_of, word_at, sign_at, name_at}
+use Rattle.dw_parse_words.specs.Words.{is_sign_at, comparison_of, word_at, sign_at, name_at}
 use Rattle.dw_parse.specs.Tables.{columns_in, table_made}
-use Rattle.dw_parse.specs.PieceReading.{listed_at, repeated_at, table_at, named_at, maybe_names_at, literal_at, tuple_at}
+use Rattle.dw_parse_words.specs.PieceReading.{listed_at, repeated_at, table_at, named_at, maybe_names_at, literal_at, tuple_at}
 use Rattle.dw_parse.specs.CreateReading.{part_at, attribute_at}
 
 -- `create table [public .] name ( part {, part} ) {attribute}`, of at most 1,600 columns

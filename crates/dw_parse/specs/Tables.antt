@@ -22,7 +22,7 @@ use Rattle.dw_parse.specs.declared.parts.AttributeWord.{AttributeWord}
 use Rattle.dw_parse.specs.declared.parts.AttributeWord.TheVariants as attribute_word
 use Rattle.dw_parse.specs.declared.parts.Attribute.{Attribute}
 use Rattle.dw_parse.specs.declared.parts.Attribute.TheVariants as attribute
-use Rattle.dw_parse.specs.Words.{meant_at}
+use Rattle.dw_parse_words.specs.Words.{meant_at}
 
 -- the words that an option of a column begins with
 abbrev pub option_words : List (List ℕ × OptionWord)

@@ -1,16 +1,16 @@
 //! Attributes of tables.
-ghost use Rattle.std.specs.Prelude.{◌≡◌, ◌+◌, ◌<◌, ◌≤◌, ◌||◌, length, IfOk, IfSome};
+ghost use Rattle.std.specs.Prelude.{◌≡◌, ◌+◌, ◌<◌, ◌≤◌, ◌||◌, length, IfOk, IfSome, OnSome};
 ghost use Rattle.dw_parse.specs.declared.parts.AttributeWord.TheVariants.{DistStyle};
 ghost use Rattle.dw_parse.specs.declared.parts.Attribute.TheVariants.{Idle};
-ghost use Rattle.dw_parse.specs.Words.{word_at};
-ghost use Rattle.dw_parse.specs.CreateReading.{when, sort_key_at, dist_key_at, attribute_by};
+ghost use Rattle.dw_parse_words.specs.Words.{meant, word_at};
+ghost use Rattle.dw_parse_words.specs.KindReading.{when};
+ghost use Rattle.dw_parse.specs.Tables.{style_words, style_word};
+ghost use Rattle.dw_parse.specs.CreateReading.{sort_key_at, dist_key_at, attribute_by};
 
-use crate::lists::Element;
-use crate::names::names_at;
 use crate::parts::{Attribute, AttributeWord};
-use crate::words::{Said, is_sign_at, meant_at, name_at, says, word_at};
 use dw_lex::{Sign, Token};
 use dw_model::StyleWord;
+use dw_parse_words::{Element, Said, is_sign_at, meant_at, name_at, names_at, says, word_at};
 use dw_value::List;
 use std::alloc::{AllocError, Global};
 
@@ -39,23 +39,29 @@ impl Said for AttributeWord {
 }
 
 // What stands after DISTSTYLE; AUTO is taken as EVEN.
-impl Said for StyleWord {
-    ghost use Rattle.dw_parse.specs.Tables.{style_words};
+fn style_of(token: &Token) -> Option<StyleWord>
+    ensures { result ≡ meant style_words token.now }
+{
+    if says(token, "even") {
+        Some(StyleWord::Even)
+    } else if says(token, "key") {
+        Some(StyleWord::Key)
+    } else if says(token, "all") {
+        Some(StyleWord::All)
+    } else if says(token, "auto") {
+        Some(StyleWord::Even)
+    } else {
+        None
+    }
+}
 
-    ghost words = { style_words };
-
-    fn of(token: &Token) -> Option<StyleWord> {
-        if says(token, "even") {
-            Some(StyleWord::Even)
-        } else if says(token, "key") {
-            Some(StyleWord::Key)
-        } else if says(token, "all") {
-            Some(StyleWord::All)
-        } else if says(token, "auto") {
-            Some(StyleWord::Even)
-        } else {
-            None
-        }
+fn style_word(tokens: &List<Token>, at: usize) -> Option<StyleWord>
+    ensures value { result ≡ style_word tokens.now at }
+    ensures within { OnSome result (at < length tokens.now) }
+{
+    match tokens.get(at) {
+        Some(token) => style_of(token),
+        None => None,
     }
 }
 
@@ -66,7 +72,7 @@ fn style_at(tokens: &List<Token>, at: usize) -> Option<(Attribute, usize)>
     ensures within { IfSome result (λ found. (at < found.1) × (found.1 ≤ length tokens.now)) }
 {
     let _count = tokens.len();
-    match meant_at::<StyleWord>(tokens, at + 1) {
+    match style_word(tokens, at + 1) {
         Some(style) => Some((Attribute::Style { style }, at + 2)),
         None => None,
     }

@@ -2,9 +2,9 @@
 ghost use Rattle.std.specs.Prelude.{◌≡◌};
 ghost use Rattle.dw_parse.specs.Reading.{is_rest, block_word, read_block};
 
-use crate::words::word_at;
 use dw_lex::Token;
 use dw_model::Statement;
+use dw_parse_words::word_at;
 use dw_value::List;
 
 // Whether nothing is left from this place on, or just one of the words that may stand after the first.

@@ -2,12 +2,12 @@
 ghost use Rattle.std.specs.Prelude.{◌≡◌, ◌<◌, ◌≤◌, length, IfOk, IfSome};
 ghost use Rattle.dw_parse.specs.CreateReading.{column_at, constraint_at, foreign_of, foreign_after, constraint_by};
 
-use crate::kinds::kind_at;
-use crate::lists::{Element, repeated_at};
-use crate::names::{maybe_names_at, names_at, table_at};
 use crate::parts::{ColumnOption, Part, PartWord};
-use crate::words::{Said, meant_at, name_at, says, word_at};
 use dw_lex::Token;
+use dw_parse_words::{
+    Element, Said, kind_at, maybe_names_at, meant_at, name_at, names_at, repeated_at, says,
+    table_at, word_at,
+};
 use dw_value::{List, Text};
 use std::alloc::{AllocError, Global};
 

@@ -2,13 +2,11 @@
 ghost use Rattle.std.specs.Prelude.{◌≡◌, ◌≤◌, length, IfOk};
 ghost use Rattle.dw_parse.specs.Reading.{create_with, read_create, create_after, read_drop};
 
-use crate::lists::{listed_at, repeated_at};
-use crate::names::table_at;
 use crate::parts::{Attribute, Part};
 use crate::tables::table_made;
-use crate::words::{is_sign_at, word_at};
 use dw_lex::{Sign, Token};
 use dw_model::Statement;
+use dw_parse_words::{is_sign_at, listed_at, repeated_at, table_at, word_at};
 use dw_value::{List, Text};
 use std::alloc::{AllocError, Global};
 

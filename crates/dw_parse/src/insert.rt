@@ -2,11 +2,9 @@
 ghost use Rattle.std.specs.Prelude.{◌≡◌, ◌≤◌, length, IfOk};
 ghost use Rattle.dw_parse.specs.Reading.{insert_values, insert_after, read_insert};
 
-use crate::lists::listed_at;
-use crate::names::{maybe_names_at, table_at};
-use crate::words::word_at;
 use dw_lex::Token;
 use dw_model::{Literal, Statement};
+use dw_parse_words::{listed_at, maybe_names_at, table_at, word_at};
 use dw_value::{List, Text};
 use std::alloc::{AllocError, Global};
 

@@ -12,18 +12,13 @@ mod columns;
 mod create;
 mod fault;
 mod insert;
-mod kinds;
 mod laws;
-mod lists;
-mod literals;
 mod lock;
-mod names;
 mod options;
 mod parser;
 mod parts;
 mod select;
 mod tables;
-mod words;
 
 pub use fault::ParseFault;
 pub use laws::{

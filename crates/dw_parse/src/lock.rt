@@ -2,11 +2,9 @@
 ghost use Rattle.std.specs.Prelude.{◌≡◌, ◌≤◌, length, IfOk};
 ghost use Rattle.dw_parse.specs.Reading.{lock_from, read_lock};
 
-use crate::lists::listed_at;
-use crate::names::{TableName, texts_of};
-use crate::words::word_at;
 use dw_lex::Token;
 use dw_model::Statement;
+use dw_parse_words::{TableName, listed_at, texts_of, word_at};
 use dw_value::List;
 use std::alloc::{AllocError, Global};
 

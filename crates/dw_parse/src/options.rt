@@ -1,15 +1,14 @@
 //! Options of columns.
 ghost use Rattle.std.specs.Prelude.{◌≡◌, ◌+◌, ◌<◌, ◌≤◌, length, IfOk, IfSome};
 ghost use Rattle.dw_parse.specs.declared.parts.OptionWord.TheVariants.{Default, Encode, References};
-ghost use Rattle.dw_parse.specs.Words.{word_at};
-ghost use Rattle.dw_parse.specs.CreateReading.{when, option_by};
+ghost use Rattle.dw_parse_words.specs.Words.{word_at};
+ghost use Rattle.dw_parse_words.specs.KindReading.{when};
+ghost use Rattle.dw_parse.specs.CreateReading.{option_by};
 
-use crate::lists::Element;
-use crate::names::{maybe_names_at, table_at};
 use crate::parts::{ColumnOption, OptionWord};
-use crate::words::{Said, meant_at, says, word_at};
 use dw_lex::Token;
 use dw_model::Literal;
+use dw_parse_words::{Element, Said, maybe_names_at, meant_at, says, table_at, word_at};
 use dw_value::{Encoding, List};
 use std::alloc::{AllocError, Global};
 

@@ -9,9 +9,9 @@ use crate::fault::ParseFault;
 use crate::insert::read_insert;
 use crate::lock::read_lock;
 use crate::select::read_select;
-use crate::words::word_at;
 use dw_lex::Token;
 use dw_model::Statement;
+use dw_parse_words::word_at;
 use dw_value::List;
 use std::alloc::{AllocError, Global};
 

@@ -2,11 +2,9 @@
 ghost use Rattle.std.specs.Prelude.{◌≡◌, ◌<◌, ◌≤◌, length, IfOk};
 ghost use Rattle.dw_parse.specs.Reading.{test_at, condition_at, read_select, select_after};
 
-use crate::lists::{Element, listed_at};
-use crate::names::table_at;
-use crate::words::{comparison_of, name_at, sign_at, word_at};
 use dw_lex::Token;
 use dw_model::{Literal, Query, Statement, Test};
+use dw_parse_words::{Element, comparison_of, listed_at, name_at, sign_at, table_at, word_at};
 use dw_value::{List, Text};
 use std::alloc::{AllocError, Global};
 

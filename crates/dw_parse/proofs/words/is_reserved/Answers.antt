@@ -1,6 +1,0 @@
-use Rattle.dw_parse.specs.Words.{is_reserved}
-use Rattle.dw_parse.proofs.words.is_reserved.Goals as goal
-
-pub returns : goal.returns
-unfolding is_reserved
-returns c = c.contains.ensures.value

@@ -1,0 +1,4 @@
+pub mod FoundLemmas
+mod ListLemmas
+pub mod PieceLemmas
+pub mod KindLemmas
