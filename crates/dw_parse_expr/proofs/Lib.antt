@@ -1,0 +1,12 @@
+mod Steps
+mod MarkLemmas
+mod LevelLemmas
+mod Sound
+mod SoundLevels
+mod Places
+mod AtomLemmas
+mod Items
+mod GoesOn
+mod Comes
+mod Complete
+mod Answered
