@@ -4,7 +4,7 @@ use Rattle.dw_expr.specs.declared.typed.Typed.TheVariants.{Decided}
 use Rattle.dw_expr.specs.BoundTree.{column}
 use Rattle.dw_expr.specs.Sight.{RowColumn}
 use Rattle.dw_expr.specs.Binding.{column_at}
-use Rattle.dw_bind.specs.declared.walk.Found.{Found}
+use Rattle.dw_bind.specs.declared.hits.Found.{Found}
 use Rattle.dw_bind.specs.Hits.{capped, found_of}
 
 pub column_unknown : (meant : Option RowColumn) → None ≡ option_map found_of meant → option_map column_at meant ≡ None

@@ -5,4 +5,5 @@ pub mod JointKinds
 pub mod Typing
 pub mod Unknowns
 pub mod Walks
+pub mod Tables
 pub mod Columns

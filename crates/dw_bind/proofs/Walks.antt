@@ -4,8 +4,8 @@ use Rattle.std.proofs.lemmas.List.{drop_more, at_drop_all}
 use Rattle.dw_expr.specs.declared.sight.NamedColumn.{NamedColumn}
 use Rattle.dw_expr.specs.declared.sight.NamedSource.{NamedSource}
 use Rattle.dw_expr.specs.Sight.{RowColumn, Reference, may_mean, columns_from, columns_after, row_columns, only_one, meant}
-use Rattle.dw_bind.specs.declared.walk.Hits.{Hits}
-use Rattle.dw_bind.specs.declared.walk.Hits.TheVariants.{Nothing, One, Several}
+use Rattle.dw_bind.specs.declared.hits.Hits.{Hits}
+use Rattle.dw_bind.specs.declared.hits.Hits.TheVariants.{Nothing, One, Several}
 use Rattle.dw_bind.specs.Hits.{capped, found_of, joined_hits, hit, hits, found_in}
 
 pub capped_small : (p : ℕ) → p < 18446744073709551616 → capped p ≡ p
@@ -119,10 +119,17 @@ source-turn reference place after sources i from found next whole within item up
     ∙ ap (λ l. joined_hits found (hits reference (columns_after i place l))) (sym split)
     ∙ p
 
--- after the walk, the column that was found is the one that is meant
+-- after the walk over a source's columns, all of them are counted
+pub columns-end : (reference : Reference) (number : ℕ) (alias : List ℕ) (place : ℕ) (columns : List NamedColumn) (i : ℕ) (found whole : Hits) → length columns ≤ i
+    → joined_hits found (hits reference (columns_from number alias place (drop i columns))) ≡ whole → found ≡ whole
+columns-end reference number alias place columns i found whole past p =
+    let none = at_drop_all (λ (l : List NamedColumn). joined_hits found (hits reference (columns_from number alias place l))) columns i past in
+    sym (joined_hits-nothing found) ∙ sym none ∙ p
+
+-- after the walk, those that were counted are those that the name may mean
 pub walk-end : (reference : Reference) (sources : List NamedSource) (found : Hits) (number place i : ℕ) → length sources ≤ i
     → joined_hits found (hits reference (columns_after number place (drop i sources))) ≡ hits reference (row_columns sources)
-    → found_in found ≡ option_map found_of (meant sources reference)
+    → found ≡ hits reference (row_columns sources)
 walk-end reference sources found number place i past p =
     let none = at_drop_all (λ (l : List NamedSource). joined_hits found (hits reference (columns_after number place l))) sources i past in
-    ap found_in (sym (joined_hits-nothing found) ∙ sym none ∙ p) ∙ found_in-hits reference sources
+    sym (joined_hits-nothing found) ∙ sym none ∙ p

@@ -1,9 +1,9 @@
 -- The columns that a name may mean, as far as it matters whether there is just one.
 use Rattle.std.specs.Prelude.{ℕ, min, List, [], ◌∷◌, Option, Some, None, if◌then◌else◌}
 use Rattle.dw_expr.specs.Sight.{RowColumn, Reference, may_mean}
-use Rattle.dw_bind.specs.declared.walk.Found.{Found}
-use Rattle.dw_bind.specs.declared.walk.Hits.{Hits}
-use Rattle.dw_bind.specs.declared.walk.Hits.TheVariants.{Nothing, One, Several}
+use Rattle.dw_bind.specs.declared.hits.Found.{Found}
+use Rattle.dw_bind.specs.declared.hits.Hits.{Hits}
+use Rattle.dw_bind.specs.declared.hits.Hits.TheVariants.{Nothing, One, Several}
 
 -- a place as a number of 64 bits, or the greatest of these
 abbrev pub capped : ℕ → ℕ

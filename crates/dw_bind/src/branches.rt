@@ -7,7 +7,7 @@ ghost use Rattle.dw_bind.specs.Joints.{joint_with, joint_from};
 
 use crate::comparisons::more;
 use crate::faults::KindFault;
-use crate::nodes::{choice, choice_else, coalesce};
+use crate::nodes::{choice, choice_else, coalesce, keep_both};
 use crate::operands::{as_kind, as_truth};
 use dw_expr::{
     BoundArms, BoundArmsNode, BoundExpr, BoundExprs, BoundExprsNode, Typed, TypedArm, branch_kind,
@@ -82,8 +82,7 @@ fn branch(
 ) -> Result<BoundArms, KindFault>
     ensures { Gains (Some (branch condition value rest)) result }
 {
-    let condition = keep(alloc, condition)?;
-    let value = keep(alloc, value)?;
+    let (condition, value) = keep_both(alloc, condition, value)?;
     let rest = keep(alloc, rest)?;
     Ok(BoundArms {
         node: BoundArmsNode::More(condition, value, rest),

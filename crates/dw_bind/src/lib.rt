@@ -5,12 +5,13 @@ mod binding;
 mod branches;
 mod comparisons;
 mod faults;
+mod hits;
+mod names;
 mod nodes;
 mod operands;
 mod operations;
 mod sight;
 mod unknown;
-mod walk;
 
 pub use binding::bind_expression;
 pub use sight::Sight;

@@ -1,5 +1,5 @@
 //! Bound expressions made of their parts.
-ghost use Rattle.std.specs.Prelude.{◌≡◌, Some};
+ghost use Rattle.std.specs.Prelude.{◌≡◌, Some, IfOk};
 ghost use Rattle.dw_expr.specs.BoundTree.{literal, arithmetic, joined, compared, both, either, opposite, is_null, between, in_list, like, choice, choice_else, cast, coalesce, aggregate};
 ghost use Rattle.dw_expr.specs.Binding.{null_of};
 ghost use Rattle.dw_bind.specs.Gained.{Gains};
@@ -7,7 +7,7 @@ ghost use Rattle.dw_bind.specs.Gained.{Gains};
 use crate::faults::KindFault;
 use dw_expr::{Aggregate, BoundArms, BoundExpr, BoundExprs, BoundNode, keep};
 use dw_value::{Comparison, Kind, Op, Value};
-use std::alloc::Global;
+use std::alloc::{AllocError, Global};
 
 /// A value of a kind.
 pub(crate) fn literal(value: Value, kind: Kind) -> BoundExpr
@@ -25,6 +25,19 @@ pub(crate) fn null_of(kind: Kind) -> BoundExpr
     literal(Value::Null, kind)
 }
 
+/// Two parts, each in a box of its own.
+pub(crate) fn keep_both<A: Drop, B: Drop>(
+    alloc: Global,
+    a: A,
+    b: B,
+) -> Result<(Box<A>, Box<B>), AllocError>
+    ensures { IfOk result (λ kept. (kept.0.value ≡ a) × (kept.1.value ≡ b)) }
+{
+    let a = keep(alloc, a)?;
+    let b = keep(alloc, b)?;
+    Ok((a, b))
+}
+
 /// An operation on two numbers.
 pub(crate) fn arithmetic(
     alloc: Global,
@@ -35,8 +48,7 @@ pub(crate) fn arithmetic(
 ) -> Result<BoundExpr, KindFault>
     ensures { Gains (Some (arithmetic op a b kind)) result }
 {
-    let a = keep(alloc, a)?;
-    let b = keep(alloc, b)?;
+    let (a, b) = keep_both(alloc, a, b)?;
     Ok(BoundExpr {
         node: BoundNode::Arithmetic(op, a, b, kind),
     })
@@ -46,8 +58,7 @@ pub(crate) fn arithmetic(
 pub(crate) fn joined(alloc: Global, a: BoundExpr, b: BoundExpr) -> Result<BoundExpr, KindFault>
     ensures { Gains (Some (joined a b)) result }
 {
-    let a = keep(alloc, a)?;
-    let b = keep(alloc, b)?;
+    let (a, b) = keep_both(alloc, a, b)?;
     Ok(BoundExpr {
         node: BoundNode::Joined(a, b),
     })
@@ -62,8 +73,7 @@ pub(crate) fn compared(
 ) -> Result<BoundExpr, KindFault>
     ensures { Gains (Some (compared comparison a b)) result }
 {
-    let a = keep(alloc, a)?;
-    let b = keep(alloc, b)?;
+    let (a, b) = keep_both(alloc, a, b)?;
     Ok(BoundExpr {
         node: BoundNode::Compared(comparison, a, b),
     })
@@ -73,8 +83,7 @@ pub(crate) fn compared(
 pub(crate) fn both(alloc: Global, a: BoundExpr, b: BoundExpr) -> Result<BoundExpr, KindFault>
     ensures { Gains (Some (both a b)) result }
 {
-    let a = keep(alloc, a)?;
-    let b = keep(alloc, b)?;
+    let (a, b) = keep_both(alloc, a, b)?;
     Ok(BoundExpr {
         node: BoundNode::And(a, b),
     })
@@ -84,8 +93,7 @@ pub(crate) fn both(alloc: Global, a: BoundExpr, b: BoundExpr) -> Result<BoundExp
 pub(crate) fn either(alloc: Global, a: BoundExpr, b: BoundExpr) -> Result<BoundExpr, KindFault>
     ensures { Gains (Some (either a b)) result }
 {
-    let a = keep(alloc, a)?;
-    let b = keep(alloc, b)?;
+    let (a, b) = keep_both(alloc, a, b)?;
     Ok(BoundExpr {
         node: BoundNode::Or(a, b),
     })
@@ -122,8 +130,7 @@ pub(crate) fn between(
     ensures { Gains (Some (between negated a low high)) result }
 {
     let a = keep(alloc, a)?;
-    let low = keep(alloc, low)?;
-    let high = keep(alloc, high)?;
+    let (low, high) = keep_both(alloc, low, high)?;
     Ok(BoundExpr {
         node: BoundNode::Between(negated, a, low, high),
     })
@@ -138,8 +145,7 @@ pub(crate) fn in_list(
 ) -> Result<BoundExpr, KindFault>
     ensures { Gains (Some (in_list negated a list)) result }
 {
-    let a = keep(alloc, a)?;
-    let list = keep(alloc, list)?;
+    let (a, list) = keep_both(alloc, a, list)?;
     Ok(BoundExpr {
         node: BoundNode::InList(negated, a, list),
     })
@@ -154,8 +160,7 @@ pub(crate) fn like(
 ) -> Result<BoundExpr, KindFault>
     ensures { Gains (Some (like negated a pattern)) result }
 {
-    let a = keep(alloc, a)?;
-    let pattern = keep(alloc, pattern)?;
+    let (a, pattern) = keep_both(alloc, a, pattern)?;
     Ok(BoundExpr {
         node: BoundNode::Like(negated, a, pattern),
     })
@@ -180,8 +185,7 @@ pub(crate) fn choice_else(
 ) -> Result<BoundExpr, KindFault>
     ensures { Gains (Some (choice_else branches other kind)) result }
 {
-    let branches = keep(alloc, branches)?;
-    let other = keep(alloc, other)?;
+    let (branches, other) = keep_both(alloc, branches, other)?;
     Ok(BoundExpr {
         node: BoundNode::Case(branches, Some(other), kind),
     })

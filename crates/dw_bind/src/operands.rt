@@ -1,9 +1,9 @@
 //! Operands, as they are read beside one another.
 ghost use Rattle.std.specs.Prelude.{◌≡◌};
-ghost use Rattle.std.specs.Option.{option_copied};
+ghost use Rattle.std.specs.Option.{option_copied, option_map};
 ghost use Rattle.dw_expr.specs.Binding.{as_kind, settled, as_truth, as_text, as_assigned, as_date, read_beside, comparable_only, against, left_side};
 ghost use Rattle.dw_bind.specs.Gained.{Gains};
-ghost use Rattle.dw_bind.specs.Parts.{words_in, Doubles};
+ghost use Rattle.dw_bind.specs.Parts.{literal_in, text_of, words_in, Doubles};
 
 use crate::faults::KindFault;
 use crate::nodes::{literal, null_of};
@@ -63,14 +63,13 @@ pub(crate) fn as_assigned(kind: Kind, a: Typed) -> Result<BoundExpr, KindFault>
     }
 }
 
-/// The text of a text literal.
-fn words_in(a: &BoundExpr) -> Option<&Text>
-    ensures { option_copied result ≡ words_in a.now }
+/// The value of a literal, and its kind.
+fn literal_in(a: &BoundExpr) -> Option<(&Value, Kind)>
+    ensures { option_map (λ found. (found.0.now, found.1)) result ≡ literal_in a.now }
 {
     match &a.node {
-        BoundNode::Literal(Value::Words(text), _) => Some(text),
-        BoundNode::Literal(_, _)
-        | BoundNode::Column { .. }
+        BoundNode::Literal(value, kind) => Some((value, *kind)),
+        BoundNode::Column { .. }
         | BoundNode::Arithmetic(_, _, _, _)
         | BoundNode::Joined(_, _)
         | BoundNode::Compared(_, _, _)
@@ -86,6 +85,27 @@ fn words_in(a: &BoundExpr) -> Option<&Text>
         | BoundNode::Coalesce(_, _)
         | BoundNode::CountRows
         | BoundNode::Aggregate(_, _, _) => None,
+    }
+}
+
+/// The text that a value is.
+fn text_in(value: &Value) -> Option<&Text>
+    ensures { option_copied result ≡ text_of value.now }
+{
+    match value {
+        Value::Words(text) => Some(text),
+        Value::Null | Value::Number(_) | Value::Day(_) | Value::Truth(_) => None,
+    }
+}
+
+/// The text of a text literal.
+#[tactic(auto, using(crate::proofs::Literals::words_of_literal, crate::proofs::Literals::words_of_others))]
+fn words_in(a: &BoundExpr) -> Option<&Text>
+    ensures { option_copied result ≡ words_in a.now }
+{
+    match literal_in(a) {
+        Some((value, _)) => text_in(value),
+        None => None,
     }
 }
 
@@ -151,32 +171,18 @@ pub(crate) fn left_side(a: Typed, b: &Typed) -> Result<BoundExpr, KindFault>
 
 /// A second expression equal to the first where that is a literal, so that it stands in each comparison; `None` where it
 /// stands once.
+#[tactic(auto, using(crate::proofs::Literals::literal_found, crate::proofs::Literals::no_literal))]
 pub(crate) fn literal_copy(a: &Typed) -> Result<Option<Typed>, AllocError>
     ensures { Doubles a.now result }
 {
     match a {
         Typed::Undecided => Ok(Some(Typed::Undecided)),
-        Typed::Decided(a) => match &a.node {
-            BoundNode::Literal(value, kind) => {
+        Typed::Decided(a) => match literal_in(a) {
+            Some((value, kind)) => {
                 let value = value.copy()?;
-                Ok(Some(Typed::Decided(literal(value, *kind))))
+                Ok(Some(Typed::Decided(literal(value, kind))))
             }
-            BoundNode::Column { .. }
-            | BoundNode::Arithmetic(_, _, _, _)
-            | BoundNode::Joined(_, _)
-            | BoundNode::Compared(_, _, _)
-            | BoundNode::And(_, _)
-            | BoundNode::Or(_, _)
-            | BoundNode::Not(_)
-            | BoundNode::IsNull(_, _)
-            | BoundNode::Between(_, _, _, _)
-            | BoundNode::InList(_, _, _)
-            | BoundNode::Like(_, _, _)
-            | BoundNode::Case(_, _, _)
-            | BoundNode::Cast(_, _)
-            | BoundNode::Coalesce(_, _)
-            | BoundNode::CountRows
-            | BoundNode::Aggregate(_, _, _) => Ok(None),
+            None => Ok(None),
         },
     }
 }

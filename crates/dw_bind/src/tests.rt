@@ -869,7 +869,7 @@ fn sight_and_row(alloc: Global) -> Result<(Sight, Row), AllocError> {
         alias: Text::from_str(alloc, "u")?,
         columns: second,
     })?;
-    Ok((Sight::new(sources)?, Row { values }))
+    Ok((Sight::new(alloc, sources)?, Row { values }))
 }
 
 /// A kind's name.

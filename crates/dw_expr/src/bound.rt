@@ -60,7 +60,7 @@ pub enum BoundNode {
 
 /// Bound expressions in a row.
 #[cycle(bound)]
-#[derive(Debug, Drop)]
+#[derive(Debug)]
 pub struct BoundExprs {
     /// The first and the rest, or the end.
     pub node: BoundExprsNode,
@@ -137,6 +137,23 @@ impl Model for BoundArms {
     ghost view = { λ e. arms_of e.node };
 
     ghost size = { arms_size };
+}
+
+/// A row is let go by a loop: a call of itself for each expression would need a stack as deep as the row is long.
+impl Drop for BoundExprs {
+    #[cycle(bound)]
+    fn drop(mut self) {
+        loop {
+            match self {
+                BoundExprs {
+                    node: BoundExprsNode::End,
+                } => return,
+                BoundExprs {
+                    node: BoundExprsNode::More(_, rest),
+                } => self = Box::into_inner(rest),
+            }
+        }
+    }
 }
 
 impl BoundExpr {

@@ -1,5 +1,6 @@
 //! Why an expression is refused before any row is read.
 use dw_value::Text;
+use std::alloc::AllocError;
 
 /// Why an expression isn't bound to the columns in sight.
 #[derive(Debug, Drop)]
@@ -11,4 +12,15 @@ pub enum BindFault {
     Clash,
     /// There was no memory. It may come in place of any answer.
     Memory,
+}
+
+impl From<AllocError> for BindFault {
+    ghost use Rattle.std.specs.Prelude.{◌≡◌};
+    ghost use Rattle.dw_expr.specs.declared.faults.BindFault.{BindFault};
+
+    ghost from_gives = { λ _ fault. fault ≡ BindFault.Memory };
+
+    fn from(_: AllocError) -> BindFault {
+        BindFault::Memory
+    }
 }

@@ -32,5 +32,3 @@ pub use typed::{Typed, TypedArm, Wanted};
 
 #[cfg(test)]
 mod tests;
-#[cfg(test)]
-mod tree_tests;

@@ -92,7 +92,7 @@ pub enum Node {
 
 /// Expressions in a row.
 #[cycle(expr)]
-#[derive(Debug, Drop)]
+#[derive(Debug)]
 pub struct Exprs {
     /// The first and the rest, or the end.
     pub node: ExprsNode,
@@ -169,6 +169,23 @@ impl Model for Arms {
     ghost view = { λ e. branches_of e.node };
 
     ghost size = { branches_size };
+}
+
+/// A row is let go by a loop: a call of itself for each expression would need a stack as deep as the row is long.
+impl Drop for Exprs {
+    #[cycle(expr)]
+    fn drop(mut self) {
+        loop {
+            match self {
+                Exprs {
+                    node: ExprsNode::End,
+                } => return,
+                Exprs {
+                    node: ExprsNode::More(_, rest),
+                } => self = Box::into_inner(rest),
+            }
+        }
+    }
 }
 
 impl Literal {
