@@ -10,3 +10,6 @@ mod GoesOn
 mod Comes
 mod Complete
 mod Answered
+mod Along
+mod Ends
+mod FromTheEnd
