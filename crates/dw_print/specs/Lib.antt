@@ -5,3 +5,4 @@ pub mod Tables
 pub mod Events
 pub mod Report
 pub mod Checked
+pub mod Typed

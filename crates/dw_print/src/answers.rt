@@ -2,6 +2,7 @@
 ghost use Rattle.std.specs.Prelude.{◌≡◌, ◌++◌, flat_map, OnOk};
 ghost use Rattle.dw_print.specs.Rows.{fields_line};
 ghost use Rattle.dw_print.specs.Answers.{word_text, answer_text};
+ghost use Rattle.dw_print.specs.Typed.{AreTypedRows, IsTypedAnswer};
 
 use crate::fields::{write_number, write_text};
 use crate::rows::{write_fields_line, write_names_line};
@@ -11,7 +12,8 @@ use std::alloc::AllocError;
 
 /// Writes an answer, from the words of its statement to the end of its last line.
 pub fn write_answer(out: &mut Vec<u8>, answer: &Answer) -> Result<(), AllocError>
-    ensures { OnOk result (out.new.items ≡ out.old.items ++ answer_text answer.now) }
+    ensures text { OnOk result (out.new.items ≡ out.old.items ++ answer_text answer.now) }
+    ensures typed { OnOk result (IsTypedAnswer answer.now) }
 {
     match answer {
         Answer::Rows { word, names, rows } => {
@@ -51,7 +53,8 @@ pub fn write_word(out: &mut Vec<u8>, word: Word) -> Result<(), AllocError>
 
 /// Writes the rows of an answer, each as a line.
 fn write_rows(out: &mut Vec<u8>, rows: &[List<Field>]) -> Result<(), AllocError>
-    ensures { OnOk result (out.new.items ≡ out.old.items ++ flat_map fields_line rows.now) }
+    ensures text { OnOk result (out.new.items ≡ out.old.items ++ flat_map fields_line rows.now) }
+    ensures typed { OnOk result (AreTypedRows rows.now) }
 {
     for row in rows {
         write_fields_line(out, row.as_slice())?;

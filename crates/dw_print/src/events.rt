@@ -1,8 +1,10 @@
 //! The lines of a journal's events: one function a kind of event.
-ghost use Rattle.std.specs.Prelude.{◌≡◌, ◌++◌, OnOk};
+ghost use Rattle.std.specs.Prelude.{◌≡◌, ◌++◌, length, OnOk};
+ghost use Rattle.std.specs.List.{AllByRecursion};
 ghost use Rattle.dw_print.specs.Events.{start, bare_line, pass_line, wait_line, route_text, open_line, answer_lines, commit_line};
 ghost use Rattle.dw_print.specs.Events.{object_text, violation_line, refuse_line, sweep_line, slice_line, sweep_end_line};
 ghost use Rattle.dw_print.specs.Events.{refresh_line, end_line, event_lines, journal_lines};
+ghost use Rattle.dw_print.specs.Typed.{IsLong, IsShort, IsTypedEvent, IsTypedObject, IsTypedRoute};
 
 use crate::answers::{write_answer, write_word};
 use crate::fields::{write_field, write_number, write_refusal, write_sessions, write_text};
@@ -34,7 +36,8 @@ fn write_bare(
     session: u32,
     statement: u32,
 ) -> Result<(), AllocError>
-    ensures { OnOk result (out.new.items ≡ out.old.items ++ bare_line number kind.now session statement) }
+    ensures text { OnOk result (out.new.items ≡ out.old.items ++ bare_line number kind.now session statement) }
+    ensures typed { OnOk result (IsShort session × IsShort statement) }
 {
     write_start(out, number, kind, session, statement)?;
     write_text(out, "\n")
@@ -48,7 +51,8 @@ fn write_pass(
     statement: u32,
     word: Word,
 ) -> Result<(), AllocError>
-    ensures { OnOk result (out.new.items ≡ out.old.items ++ pass_line number session statement word) }
+    ensures text { OnOk result (out.new.items ≡ out.old.items ++ pass_line number session statement word) }
+    ensures typed { OnOk result (IsTypedEvent (Event.Pass session statement word)) }
 {
     write_start(out, number, " pass ", session, statement)?;
     write_text(out, " ")?;
@@ -64,7 +68,8 @@ fn write_wait(
     statement: u32,
     holders: &[u32],
 ) -> Result<(), AllocError>
-    ensures { OnOk result (out.new.items ≡ out.old.items ++ wait_line number session statement holders.now) }
+    ensures text { OnOk result (out.new.items ≡ out.old.items ++ wait_line number session statement holders.now) }
+    ensures typed { OnOk result (IsTypedEvent (Event.Wait session statement holders.now)) }
 {
     write_start(out, number, " wait ", session, statement)?;
     write_text(out, " for")?;
@@ -74,7 +79,8 @@ fn write_wait(
 
 /// Writes where a statement is worked on.
 fn write_route(out: &mut Vec<u8>, route: Route) -> Result<(), AllocError>
-    ensures { OnOk result (out.new.items ≡ out.old.items ++ route_text route) }
+    ensures text { OnOk result (out.new.items ≡ out.old.items ++ route_text route) }
+    ensures typed { OnOk result (IsTypedRoute route) }
 {
     match route {
         Route::Main => write_text(out, "main"),
@@ -91,7 +97,8 @@ fn write_open(
     snapshot: u64,
     route: Route,
 ) -> Result<(), AllocError>
-    ensures { OnOk result (out.new.items ≡ out.old.items ++ open_line number session statement snapshot route) }
+    ensures text { OnOk result (out.new.items ≡ out.old.items ++ open_line number session statement snapshot route) }
+    ensures typed { OnOk result (IsTypedEvent (Event.Opened session statement snapshot route)) }
 {
     write_start(out, number, " open ", session, statement)?;
     write_number(out, " snapshot ", snapshot)?;
@@ -108,7 +115,8 @@ fn write_reply(
     statement: u32,
     answer: &Answer,
 ) -> Result<(), AllocError>
-    ensures { OnOk result (out.new.items ≡ out.old.items ++ answer_lines number session statement answer.now) }
+    ensures text { OnOk result (out.new.items ≡ out.old.items ++ answer_lines number session statement answer.now) }
+    ensures typed { OnOk result (IsTypedEvent (Event.Answer session statement answer.now)) }
 {
     write_start(out, number, " answer ", session, statement)?;
     write_text(out, " ")?;
@@ -125,7 +133,8 @@ fn write_commit(
     low: u64,
     high: u64,
 ) -> Result<(), AllocError>
-    ensures { OnOk result (out.new.items ≡ out.old.items ++ commit_line number session statement stamp low high) }
+    ensures text { OnOk result (out.new.items ≡ out.old.items ++ commit_line number session statement stamp low high) }
+    ensures typed { OnOk result (IsTypedEvent (Event.Commit session statement stamp low high)) }
 {
     write_start(out, number, " commit ", session, statement)?;
     write_number(out, " stamp ", stamp)?;
@@ -136,7 +145,8 @@ fn write_commit(
 
 /// Writes an object of a table.
 fn write_object(out: &mut Vec<u8>, object: &Object) -> Result<(), AllocError>
-    ensures { OnOk result (out.new.items ≡ out.old.items ++ object_text object.now) }
+    ensures text { OnOk result (out.new.items ≡ out.old.items ++ object_text object.now) }
+    ensures typed { OnOk result (IsTypedObject object.now) }
 {
     match object {
         Object::Def(name) => write_field(out, "def(", name.as_bytes())?,
@@ -155,7 +165,8 @@ fn write_violation(
     high: u64,
     object: &Object,
 ) -> Result<(), AllocError>
-    ensures { OnOk result (out.new.items ≡ out.old.items ++ violation_line number session statement low high object.now) }
+    ensures text { OnOk result (out.new.items ≡ out.old.items ++ violation_line number session statement low high object.now) }
+    ensures typed { OnOk result (IsTypedEvent (Event.Violation session statement low high object.now)) }
 {
     write_start(out, number, " violation ", session, statement)?;
     write_number(out, " low ", low)?;
@@ -173,7 +184,8 @@ fn write_refuse(
     statement: u32,
     refusal: &Refusal,
 ) -> Result<(), AllocError>
-    ensures { OnOk result (out.new.items ≡ out.old.items ++ refuse_line number session statement refusal.now) }
+    ensures text { OnOk result (out.new.items ≡ out.old.items ++ refuse_line number session statement refusal.now) }
+    ensures typed { OnOk result (IsTypedEvent (Event.Refuse session statement refusal.now)) }
 {
     write_start(out, number, " refuse ", session, statement)?;
     write_number(out, " ", refusal.number())?;
@@ -190,7 +202,8 @@ fn write_sweep(
     statement: u32,
     table: &Text,
 ) -> Result<(), AllocError>
-    ensures { OnOk result (out.new.items ≡ out.old.items ++ sweep_line number session statement table.now) }
+    ensures text { OnOk result (out.new.items ≡ out.old.items ++ sweep_line number session statement table.now) }
+    ensures typed { OnOk result (IsTypedEvent (Event.VacuumBegin session statement table.now)) }
 {
     write_start(out, number, " vacuum ", session, statement)?;
     write_field(out, " begin ", table.as_bytes())?;
@@ -206,7 +219,8 @@ fn write_slice(
     slice: u32,
     horizon: u64,
 ) -> Result<(), AllocError>
-    ensures { OnOk result (out.new.items ≡ out.old.items ++ slice_line number session statement slice horizon) }
+    ensures text { OnOk result (out.new.items ≡ out.old.items ++ slice_line number session statement slice horizon) }
+    ensures typed { OnOk result (IsTypedEvent (Event.VacuumSlice session statement slice horizon)) }
 {
     write_start(out, number, " vacuum ", session, statement)?;
     write_number(out, " slice ", slice)?;
@@ -221,7 +235,8 @@ fn write_sweep_end(
     session: u32,
     statement: u32,
 ) -> Result<(), AllocError>
-    ensures { OnOk result (out.new.items ≡ out.old.items ++ sweep_end_line number session statement) }
+    ensures text { OnOk result (out.new.items ≡ out.old.items ++ sweep_end_line number session statement) }
+    ensures typed { OnOk result (IsTypedEvent (Event.VacuumEnd session statement)) }
 {
     write_start(out, number, " vacuum ", session, statement)?;
     write_text(out, " end\n")
@@ -229,7 +244,8 @@ fn write_sweep_end(
 
 /// Writes that a cluster is refreshed.
 fn write_refresh(out: &mut Vec<u8>, number: u64, cluster: u32, stamp: u64) -> Result<(), AllocError>
-    ensures { OnOk result (out.new.items ≡ out.old.items ++ refresh_line number cluster stamp) }
+    ensures text { OnOk result (out.new.items ≡ out.old.items ++ refresh_line number cluster stamp) }
+    ensures typed { OnOk result (IsTypedEvent (Event.Refresh cluster stamp)) }
 {
     write_number(out, "", number)?;
     write_number(out, " refresh ", cluster)?;
@@ -239,7 +255,8 @@ fn write_refresh(out: &mut Vec<u8>, number: u64, cluster: u32, stamp: u64) -> Re
 
 /// Writes that a session's script is at its end.
 fn write_end(out: &mut Vec<u8>, number: u64, session: u32) -> Result<(), AllocError>
-    ensures { OnOk result (out.new.items ≡ out.old.items ++ end_line number session) }
+    ensures text { OnOk result (out.new.items ≡ out.old.items ++ end_line number session) }
+    ensures typed { OnOk result (IsTypedEvent (Event.End session)) }
 {
     write_number(out, "", number)?;
     write_number(out, " end ", session)?;
@@ -248,7 +265,8 @@ fn write_end(out: &mut Vec<u8>, number: u64, session: u32) -> Result<(), AllocEr
 
 /// Writes the event of this number.
 fn write_event(out: &mut Vec<u8>, number: u64, event: &Event) -> Result<(), AllocError>
-    ensures { OnOk result (out.new.items ≡ out.old.items ++ event_lines number event.now) }
+    ensures text { OnOk result (out.new.items ≡ out.old.items ++ event_lines number event.now) }
+    ensures typed { OnOk result (IsTypedEvent event.now) }
 {
     match event {
         Event::Begin { session, statement } => {
@@ -318,7 +336,9 @@ fn write_event(out: &mut Vec<u8>, number: u64, event: &Event) -> Result<(), Allo
 
 /// Writes the events of a journal, the oldest first, which are numbered from 1.
 pub fn write_events(out: &mut Vec<u8>, events: &[Event]) -> Result<(), AllocError>
-    ensures { OnOk result (out.new.items ≡ out.old.items ++ journal_lines 1 events.now) }
+    ensures text { OnOk result (out.new.items ≡ out.old.items ++ journal_lines 1 events.now) }
+    ensures typed { OnOk result (AllByRecursion IsTypedEvent events.now) }
+    ensures numbers { IsLong (length events.now) }
 {
     for (index, event) in events.iter().enumerate() {
         write_event(out, index as u64 + 1, event)?;

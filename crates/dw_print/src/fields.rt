@@ -1,7 +1,9 @@
 //! The parts of a line: texts, numbers, names, values and refusals, each written after what is there already.
 ghost use Rattle.std.specs.Prelude.{◌≡◌, ◌++◌, OnOk};
+ghost use Rattle.std.specs.List.{AllByRecursion};
 ghost use Rattle.dw_value.specs.Printed.{shown};
 ghost use Rattle.dw_print.specs.Fields.{escape, field, numbers_text, refusal_text, shown_field};
+ghost use Rattle.dw_print.specs.Typed.{IsShort, IsTypedField, IsTypedRefusal};
 
 use dw_model::Refusal;
 use dw_value::{Field, Kind, Value, show};
@@ -26,7 +28,8 @@ pub fn write_number<I: Integer>(out: &mut Vec<u8>, label: &str, number: I) -> Re
 
 /// Writes the numbers of sessions, with a space before each.
 pub fn write_sessions(out: &mut Vec<u8>, sessions: &[u32]) -> Result<(), AllocError>
-    ensures { OnOk result (out.new.items ≡ out.old.items ++ numbers_text sessions.now) }
+    ensures text { OnOk result (out.new.items ≡ out.old.items ++ numbers_text sessions.now) }
+    ensures typed { OnOk result (AllByRecursion IsShort sessions.now) }
 {
     for session in sessions {
         write_number(out, " ", *session)?;
@@ -60,7 +63,8 @@ pub fn write_field(out: &mut Vec<u8>, label: &str, name: &[u8]) -> Result<(), Al
 
 /// Writes `label` as it is, and then a field of an answer.
 pub fn write_shown(out: &mut Vec<u8>, label: &str, shown: &Field) -> Result<(), AllocError>
-    ensures { OnOk result (out.new.items ≡ out.old.items ++ label.now ++ shown_field shown.now) }
+    ensures text { OnOk result (out.new.items ≡ out.old.items ++ label.now ++ shown_field shown.now) }
+    ensures typed { OnOk result (IsTypedField shown.now) }
 {
     match shown {
         Field::Null => {
@@ -86,7 +90,8 @@ pub fn write_value(
 
 /// Writes what a report says of a refusal, after its number.
 pub fn write_refusal(out: &mut Vec<u8>, refusal: &Refusal) -> Result<(), AllocError>
-    ensures { OnOk result (out.new.items ≡ out.old.items ++ refusal_text refusal.now) }
+    ensures text { OnOk result (out.new.items ≡ out.old.items ++ refusal_text refusal.now) }
+    ensures typed { OnOk result (IsTypedRefusal refusal.now) }
 {
     match refusal {
         Refusal::Syntax { place } => write_number(out, "syntax ", *place),

@@ -1,6 +1,7 @@
 //! The whole report: the line of the shape, the events, the tables, and the serial order.
 ghost use Rattle.std.specs.Prelude.{◌≡◌, ◌++◌, OnOk, IfOk};
 ghost use Rattle.dw_print.specs.Report.{header, serial_line, report_of};
+ghost use Rattle.dw_print.specs.Typed.{IsOfTypes, IsTypedShape};
 
 use crate::events::write_events;
 use crate::fields::{write_number, write_text};
@@ -23,7 +24,8 @@ pub fn report_text(
     database: &Database,
     serial: &List<u64>,
 ) -> Result<List<u8>, AllocError>
-    ensures { IfOk result (λ bytes. bytes ≡ report_of journal.now database.now serial.now) }
+    ensures text { IfOk result (λ bytes. bytes ≡ report_of journal.now database.now serial.now) }
+    ensures typed { IfOk result (λ bytes. IsOfTypes journal.now) }
 {
     let mut out = Vec::new(alloc);
     write_header(&mut out, &journal.shape)?;
@@ -35,13 +37,21 @@ pub fn report_text(
 
 /// Writes the first line, the shape of the warehouse.
 fn write_header(out: &mut Vec<u8>, shape: &Shape) -> Result<(), AllocError>
-    ensures { OnOk result (out.new.items ≡ out.old.items ++ header shape.now) }
+    ensures text { OnOk result (out.new.items ≡ out.old.items ++ header shape.now) }
+    ensures typed { OnOk result (IsTypedShape shape.now) }
 {
-    write_number(out, "warehouse nodes ", shape.nodes)?;
-    write_number(out, " slices ", shape.slices)?;
-    write_number(out, " clusters ", shape.clusters)?;
-    write_number(out, " slots ", shape.slots)?;
-    write_number(out, " sessions ", shape.sessions)?;
+    let Shape {
+        nodes,
+        slices,
+        clusters,
+        slots,
+        sessions,
+    } = *shape;
+    write_number(out, "warehouse nodes ", nodes)?;
+    write_number(out, " slices ", slices)?;
+    write_number(out, " clusters ", clusters)?;
+    write_number(out, " slots ", slots)?;
+    write_number(out, " sessions ", sessions)?;
     write_text(out, "\n")?;
     Ok(())
 }

@@ -1,8 +1,10 @@
 //! The lines of rows: the names of an answer's columns, its rows, and the rows of a table.
-ghost use Rattle.std.specs.Prelude.{◌≡◌, ◌++◌, flat_map, OnOk};
+ghost use Rattle.std.specs.Prelude.{◌≡◌, ◌++◌, flat_map, IsUtf8, OnOk};
+ghost use Rattle.std.specs.List.{AllByRecursion};
 ghost use Rattle.dw_model.specs.Selection.{shown_all};
 ghost use Rattle.dw_print.specs.Fields.{field, shown_field, after_bar, barred};
 ghost use Rattle.dw_print.specs.Rows.{names_line, fields_line, kinds_in, row_line};
+ghost use Rattle.dw_print.specs.Typed.{IsTypedField};
 
 use crate::fields::{write_field, write_shown, write_text, write_value};
 use dw_model::Column;
@@ -11,7 +13,8 @@ use std::alloc::AllocError;
 
 /// Writes the line of the names of an answer's columns.
 pub fn write_names_line(out: &mut Vec<u8>, names: &[Text]) -> Result<(), AllocError>
-    ensures { OnOk result (out.new.items ≡ out.old.items ++ names_line names.now) }
+    ensures text { OnOk result (out.new.items ≡ out.old.items ++ names_line names.now) }
+    ensures typed { OnOk result (AllByRecursion IsUtf8 names.now) }
 {
     write_text(out, "= ")?;
     write_names(out, names)?;
@@ -20,7 +23,8 @@ pub fn write_names_line(out: &mut Vec<u8>, names: &[Text]) -> Result<(), AllocEr
 
 /// Writes names, with a bar between each two.
 fn write_names(out: &mut Vec<u8>, names: &[Text]) -> Result<(), AllocError>
-    ensures { OnOk result (out.new.items ≡ out.old.items ++ barred field names.now) }
+    ensures text { OnOk result (out.new.items ≡ out.old.items ++ barred field names.now) }
+    ensures typed { OnOk result (AllByRecursion IsUtf8 names.now) }
 {
     let Some((first, rest)) = names.split_first() else {
         return Ok(());
@@ -34,7 +38,8 @@ fn write_names(out: &mut Vec<u8>, names: &[Text]) -> Result<(), AllocError>
 
 /// Writes the line of a row of an answer.
 pub fn write_fields_line(out: &mut Vec<u8>, fields: &[Field]) -> Result<(), AllocError>
-    ensures { OnOk result (out.new.items ≡ out.old.items ++ fields_line fields.now) }
+    ensures text { OnOk result (out.new.items ≡ out.old.items ++ fields_line fields.now) }
+    ensures typed { OnOk result (AllByRecursion IsTypedField fields.now) }
 {
     write_text(out, "- ")?;
     write_fields(out, fields)?;
@@ -43,7 +48,8 @@ pub fn write_fields_line(out: &mut Vec<u8>, fields: &[Field]) -> Result<(), Allo
 
 /// Writes the fields of an answer's row, with a bar between each two.
 fn write_fields(out: &mut Vec<u8>, fields: &[Field]) -> Result<(), AllocError>
-    ensures { OnOk result (out.new.items ≡ out.old.items ++ barred shown_field fields.now) }
+    ensures text { OnOk result (out.new.items ≡ out.old.items ++ barred shown_field fields.now) }
+    ensures typed { OnOk result (AllByRecursion IsTypedField fields.now) }
 {
     let Some((first, rest)) = fields.split_first() else {
         return Ok(());

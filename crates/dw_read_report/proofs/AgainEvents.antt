@@ -26,7 +26,9 @@ use Rattle.dw_read_report.specs.declared.read_events.Head.TheVariants as heads
 use Rattle.dw_print.specs.Fields.{escape, field, numbers_text, refusal_text}
 use Rattle.dw_print.specs.Answers.{word_text}
 use Rattle.dw_print.specs.Events.{object_text, route_text}
-use Rattle.dw_read_report.specs.Readable.{IsLong, IsPassWord, IsPlainWord, IsReadableEvent, IsReadableObject, IsReadableRefusal, IsReadableRoute, IsShort}
+use Rattle.dw_print.specs.Typed.{IsLong, IsShort, IsTypedObject, IsTypedRefusal, IsTypedRoute}
+use Rattle.dw_read_report.specs.Readable.{IsPassWord, IsPlainWord}
+use Rattle.dw_read_report.proofs.Fits.{FitsEvent}
 use Rattle.dw_read_report.specs.Reading.{Reading, ◌>>=◌, both, field_at, meaning, number_at, otherwise, statement_at, word_at}
 use Rattle.dw_read_report.specs.EventReading.{answer_after, answer_at, answer_word_at, begin_at, closed_text_at, commit_at, end_at, head_after, head_at, kind_at, object_at, object_of, open_at, pass_at, pass_word_at, rarer_kind_at, rarer_reason_at, reason_at, refresh_at, refusal_after, refusal_at, refuse_at, rollback_at, route_at, step_at, vacuum_after, vacuum_at, violation_at, wait_at, without_parenthesis}
 use Rattle.dw_read_report.proofs.Texts.{parenthesis_goes}
@@ -98,13 +100,13 @@ pass_word_again words.Select rest none = absurd none
 again_pass_word : Again word_text IsPassWord Anything pass_word_at
 again_pass_word = record { whole = λ word rest fits any. pass_word_again word rest fits }
 
-route_again : (route : Route) (rest : List ℕ) → IsReadableRoute route → IsAfterNumber rest → route_at (route_text route ++ rest) ≡ Some (route, rest)
+route_again : (route : Route) (rest : List ℕ) → IsTypedRoute route → IsAfterNumber rest → route_at (route_text route ++ rest) ≡ Some (route, rest)
 unfolding route_at
 route_again Main rest fits ends = refl
 route_again (Cluster cluster) rest fits ends =
     meant_again Cluster (again_after (codes "cluster ") again_short) cluster rest (route_text (Cluster cluster)) fits ends refl
 
-again_route : Again route_text IsReadableRoute IsAfterNumber route_at
+again_route : Again route_text IsTypedRoute IsAfterNumber route_at
 again_route = record { whole = route_again }
 
 -- objects
@@ -133,18 +135,18 @@ formed_again rows name rest fits ends =
     meant_again object_of (again_both again_form again_closed_text (λ b more fit. tt)) (rows, name) rest (object_text (object_of (rows, name))) (tt, fits) ends
     (same_object_text (rows, name))
 
-object_again : (object : Object) (rest : List ℕ) → IsReadableObject object → IsAfterField rest → object_at (object_text object ++ rest) ≡ Some (object, rest)
+object_again : (object : Object) (rest : List ℕ) → IsTypedObject object → IsAfterField rest → object_at (object_text object ++ rest) ≡ Some (object, rest)
 object_again (objects.Rows name) rest fits ends = formed_again true name rest fits ends
 object_again (objects.Def name) rest fits ends = formed_again false name rest fits ends
 
-again_object : Again object_text IsReadableObject IsAfterField object_at
+again_object : Again object_text IsTypedObject IsAfterField object_at
 again_object = record { whole = object_again }
 
 -- refusals
 abbrev IsAfterRefusal : List ℕ → Type 0
 IsAfterRefusal rest = IsAfterItems (codes " ") IsAfterNumber rest × IsAfterField rest
 
-rest_again : (refusal : Refusal) (rest : List ℕ) → IsReadableRefusal refusal → IsAfterRefusal rest
+rest_again : (refusal : Refusal) (rest : List ℕ) → IsTypedRefusal refusal → IsAfterRefusal rest
     → refusal_after (reason_of refusal) (rest_text refusal ++ rest) ≡ Some (refusal, rest)
 rest_again (refusals.Syntax place) rest fits ends = meant_again refusals.Syntax again_long place rest (decimal place) fits ends.0.1 refl
 rest_again (refusals.Unknown name) rest fits ends = meant_again refusals.Unknown again_text name rest (field name) fits ends.1 refl
@@ -159,7 +161,7 @@ rest_again (refusals.Vacuuming session) rest fits ends = meant_again refusals.Va
 rest_again (refusals.Limit count) rest fits ends = meant_again refusals.Limit again_long count rest (decimal count) fits ends.0.1 refl
 rest_again refusals.Memory rest fits ends = refl
 
-again_refusal : Again refused_text IsReadableRefusal IsAfterRefusal refusal_at
+again_refusal : Again refused_text IsTypedRefusal IsAfterRefusal refusal_at
 unfolding refusal_at
 again_refusal = record {
   whole = λ refusal rest fits ends.
@@ -172,7 +174,7 @@ again_refusal = record {
 
 -- the rest of each kind's line
 abbrev IsRead : Reading Event → Event → Type 0
-IsRead read event = (rest : List ℕ) → IsReadableEvent event → read (tail_text event ++ rest) ≡ Some (event, rest)
+IsRead read event = (rest : List ℕ) → FitsEvent event → read (tail_text event ++ rest) ≡ Some (event, rest)
 
 begin_again : (s q : ℕ) → IsRead begin_at (events.Begin s q)
 unfolding begin_at
@@ -333,12 +335,12 @@ abbrev pub first_line : Event → Head
 first_line (events.Answer s q (answers.Rows word names rows)) = heads.WithRows s q (length rows)
 first_line event = heads.Whole event
 
-whole_again : (read : Reading Event) (event : Event) → IsRead read event → (rest : List ℕ) → IsReadableEvent event
+whole_again : (read : Reading Event) (event : Event) → IsRead read event → (rest : List ℕ) → FitsEvent event
     → meaning heads.Whole read (tail_text event ++ rest) ≡ Some (heads.Whole event, rest)
 whole_again read event is rest fits =
     next_is (read (tail_text event ++ rest)) (event, rest) (λ x. Some (heads.Whole x.0, x.1)) (Some (heads.Whole event, rest)) (is rest fits) refl
 
-first_line_again : (event : Event) → IsReadableEvent event → IsHeadRead (kind_of event) (first_line event)
+first_line_again : (event : Event) → FitsEvent event → IsHeadRead (kind_of event) (first_line event)
 first_line_again (events.Begin s q) fits rest = whole_again begin_at (events.Begin s q) (begin_again s q) rest fits
 first_line_again (events.Pass s q word) fits rest = whole_again pass_at (events.Pass s q word) (pass_again s q word) rest fits
 first_line_again (events.Wait s q holders) fits rest = whole_again wait_at (events.Wait s q holders) (wait_again s q holders) rest fits
@@ -362,7 +364,7 @@ first_line_again (events.VacuumEnd s q) fits rest = whole_again vacuum_at (event
 first_line_again (events.Refresh cluster stamp) fits rest = whole_again refresh_at (events.Refresh cluster stamp) (refresh_again cluster stamp) rest fits
 first_line_again (events.End session) fits rest = whole_again end_at (events.End session) (end_again session) rest fits
 
-pub head_again : (number : ℕ) (event : Event) (rest : List ℕ) → number < 2 ^ 64 → IsReadableEvent event
+pub head_again : (number : ℕ) (event : Event) (rest : List ℕ) → number < 2 ^ 64 → FitsEvent event
     → head_at number (decimal number ++ (kind_text (kind_of event) ++ (head_text (first_line event) ++ rest))) ≡ Some (first_line event, rest)
 unfolding head_at
 head_again number event rest small fits =

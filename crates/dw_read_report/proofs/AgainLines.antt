@@ -20,7 +20,9 @@ use Rattle.dw_print.specs.Events.{event_lines, journal_lines}
 use Rattle.dw_print.specs.Report.{header, report_of, serial_line}
 use Rattle.dw_print.specs.Rows.{fields_line, names_line}
 use Rattle.dw_print.specs.Tables.{tables_lines}
-use Rattle.dw_read_report.specs.Readable.{AreReadable, IsReadable, IsReadableEvent, IsReadableField}
+use Rattle.dw_print.specs.Typed.{IsTypedField}
+use Rattle.dw_read_report.specs.Readable.{AreReadable, IsReadable}
+use Rattle.dw_read_report.proofs.Fits.{FitsEvent, events_fit}
 use Rattle.dw_read_report.specs.Reading.{names_at, row_at}
 use Rattle.dw_read_report.specs.EventReading.{head_at}
 use Rattle.dw_read_report.specs.ReportReading.{all_events_at, ends_journal, event_after, event_at, events_at, journal_at, lined, on_ok, or_left, rows_at, shape_at, with_items}
@@ -38,7 +40,7 @@ line_read : {A : Type 0} (read : Option A) (left : ℕ) (a : A) → read ≡ Som
 line_read read left a is = ap (λ r. or_left r left) is
 
 -- the rows of an answer
-rows_again : (rows : List (List Field)) (rest : List ℕ) → AllByRecursion (AreReadable IsReadableField) rows
+rows_again : (rows : List (List Field)) (rest : List ℕ) → AllByRecursion (AreReadable IsTypedField) rows
     → rows_at (length rows) (flat_map fields_line rows ++ rest) ≡ Ok (rows, rest)
 rows_again [] rest fit = refl
 rows_again (row ∷ rows) rest fit =
@@ -62,13 +64,13 @@ answer_parts p d names rows rest = simp append_assoc
 abbrev IsParted : Event → List ℕ → Type 0
 IsParted event rest = tail_text event ++ rest ≡ head_text (first_line event) ++ (later_lines event ++ rest)
 
-parted : (event : Event) (rest : List ℕ) → IsReadableEvent event → IsParted event rest
+parted : (event : Event) (rest : List ℕ) → FitsEvent event → IsParted event rest
 parted (events.Answer s q (answers.Rows word names rows)) rest fits =
     subst (λ (w : Word). IsParted (events.Answer s q (answers.Rows w names rows)) rest) (sym fits.2.0)
     (answer_parts (place_text (s, q)) (decimal (length rows)) (names_line names) (flat_map fields_line rows) rest)
 parted event rest fits = refl
 
-later_again : (event : Event) (rest : List ℕ) → IsReadableEvent event → event_after (first_line event) (later_lines event ++ rest) ≡ Ok (event, rest)
+later_again : (event : Event) (rest : List ℕ) → FitsEvent event → event_after (first_line event) (later_lines event ++ rest) ≡ Ok (event, rest)
 later_again (events.Answer s q (answers.Rows word names rows)) rest fits =
     let rows_text : List ℕ = flat_map fields_line rows ++ rest in
     let bytes : List ℕ = names_line names ++ rows_text in
@@ -85,7 +87,7 @@ later_again event rest fits = refl
 regroup_event : (n k t rest : List ℕ) → (n ++ k ++ t) ++ rest ≡ n ++ (k ++ (t ++ rest))
 regroup_event n k t rest = simp append_assoc
 
-event_again : (number : ℕ) (event : Event) (rest : List ℕ) → number < 2 ^ 64 → IsReadableEvent event
+event_again : (number : ℕ) (event : Event) (rest : List ℕ) → number < 2 ^ 64 → FitsEvent event
     → event_at number (event_lines number event ++ rest) ≡ Ok (event, rest)
 unfolding event_at
 event_again number event rest small fits =
@@ -136,7 +138,7 @@ otherwise_is true x y z none is = absurd (cc none)
 otherwise_is false x y z none is = is
 
 events_again : (events : List Event) (most number : ℕ) (rest : List ℕ) → length events ≤ most → number + length events ≤ 2 ^ 64
-    → AllByRecursion IsReadableEvent events → ends_journal rest ≡ true → events_at most number (journal_lines number events ++ rest) ≡ Ok (events, rest)
+    → AllByRecursion FitsEvent events → ends_journal rest ≡ true → events_at most number (journal_lines number events ++ rest) ≡ Ok (events, rest)
 events_again [] zero number rest few small fit ends = refl
 events_again [] (suc most) number rest few small fit ends = rw ends refl
 events_again (event ∷ events) zero number rest few small fit ends = absurd (omega arith)
@@ -153,7 +155,7 @@ events_again (event ∷ events) (suc most) number rest few small fit ends =
     (event_again number event others below fit.0)
     (ap (with_items (event ∷ [])) (events_again events most (number + 1) rest fewer smaller fit.1 ends)))
 
-all_events_again : (events : List Event) (rest : List ℕ) → 1 + length events ≤ 2 ^ 64 → AllByRecursion IsReadableEvent events → ends_journal rest ≡ true
+all_events_again : (events : List Event) (rest : List ℕ) → 1 + length events ≤ 2 ^ 64 → AllByRecursion FitsEvent events → ends_journal rest ≡ true
     → all_events_at (journal_lines 1 events ++ rest) ≡ Ok (events, rest)
 unfolding all_events_at
 all_events_again events rest small fit ends =
@@ -165,12 +167,12 @@ unfolding journal_at
 parts_again journal rest fits ends =
     let lines : List ℕ = journal_lines 1 journal.events ++ rest in
     let bytes : List ℕ = header journal.shape ++ lines in
-    let few : length journal.events ≤ 18446744073709551615 = fits.numbers in
+    let few : length journal.events ≤ 18446744073709551615 = fits.types.numbers in
     lines_next (lined shape_at bytes) (journal.shape, lines)
     (λ shape. on_ok (all_events_at shape.1) (λ events. Ok (record { shape = shape.0; events = events.0 }, events.1))) (Ok (journal, rest))
-    (line_read (shape_at bytes) (length bytes) (journal.shape, lines) (again_shape.whole journal.shape lines fits.shape tt))
+    (line_read (shape_at bytes) (length bytes) (journal.shape, lines) (again_shape.whole journal.shape lines fits.limits tt))
     (lines_next (all_events_at lines) (journal.events, rest) (λ events. Ok (record { shape = journal.shape; events = events.0 }, events.1)) (Ok (journal, rest))
-    (all_events_again journal.events rest (omega arith) fits.events ends) refl)
+    (all_events_again journal.events rest (omega arith) (events_fit journal.events fits.types.events fits.words) ends) refl)
 
 pub journal_again : (journal : Journal) (rest : List ℕ) → IsReadable journal → ends_journal rest ≡ true
     → journal_at (header journal.shape ++ journal_lines 1 journal.events ++ rest) ≡ Ok (journal, rest)

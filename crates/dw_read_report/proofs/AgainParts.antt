@@ -15,7 +15,8 @@ use Rattle.dw_value.specs.declared.values.Field.{Field}
 use Rattle.dw_value.specs.declared.values.Field.TheVariants.{Null, Shown}
 use Rattle.dw_print.specs.Fields.{escape, field, shown_field, barred, numbers_text}
 use Rattle.dw_print.specs.Rows.{names_line, fields_line}
-use Rattle.dw_read_report.specs.Readable.{AreReadable, IsShort, IsLong, IsFromTo, IsReadableField, IsReadableShape}
+use Rattle.dw_print.specs.Typed.{IsLong, IsShort, IsTypedField}
+use Rattle.dw_read_report.specs.Readable.{AreReadable, IsFromTo, IsWithinLimits}
 use Rattle.dw_print.specs.Report.{header}
 use Rattle.dw_read_report.specs.ReportReading.{shape_at, shape_of}
 use Rattle.dw_read_report.specs.Reading.{Reading, ◌>>=◌, after_digits, after_label, all_items, barred_at, digits_at, ends_field, field_after, field_at, has_zero_first, items_at, long_number, meaning, names_at, number_at, number_of, row_at, sessions_at, short_number, shown_at, statement_at, text_at, with_front, word_at}
@@ -146,7 +147,7 @@ null_is_none (byte ∷ text) rest ends =
       ]
     ]
 
-shown_again : (shown : Field) (rest : List ℕ) → IsReadableField shown → IsAfterField rest → shown_at (shown_field shown ++ rest) ≡ Some (shown, rest)
+shown_again : (shown : Field) (rest : List ℕ) → IsTypedField shown → IsAfterField rest → shown_at (shown_field shown ++ rest) ≡ Some (shown, rest)
 unfolding shown_at
 shown_again Null rest fits ends = refl
 shown_again (Shown text) rest fits ends =
@@ -154,7 +155,7 @@ shown_again (Shown text) rest fits ends =
     (no_word (codes "\\N") Null (field text ++ rest) (null_is_none text rest ends))
     (meant_again Shown again_text text rest (field text) fits ends refl)
 
-pub again_shown : Again shown_field IsReadableField IsAfterField shown_at
+pub again_shown : Again shown_field IsTypedField IsAfterField shown_at
 again_shown = record { whole = shown_again }
 
 -- items
@@ -232,7 +233,7 @@ again_names = record {
       names rest (names_line names) fits tt (simp append_assoc);
 }
 
-pub again_row : Again fields_line (AreReadable IsReadableField) Anything row_at
+pub again_row : Again fields_line (AreReadable IsTypedField) Anything row_at
 unfolding row_at
 again_row = record {
   whole = λ fields rest fits any.
@@ -240,7 +241,7 @@ again_row = record {
       fields rest (fields_line fields) fits tt (simp append_assoc);
 }
 
-pub again_shape : Again header IsReadableShape Anything shape_at
+pub again_shape : Again header IsWithinLimits Anything shape_at
 unfolding shape_at
 again_shape = record {
   whole = λ shape rest fits any.

@@ -3,6 +3,7 @@ pub mod Numbers
 pub mod Items
 pub mod Texts
 pub mod LineItems
+pub mod Fits
 pub mod Taking
 pub mod TakenParts
 pub mod TakenEvents
@@ -11,3 +12,4 @@ pub mod Again
 pub mod AgainParts
 pub mod AgainEvents
 pub mod AgainLines
+pub mod LegalWords

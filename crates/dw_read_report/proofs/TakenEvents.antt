@@ -26,7 +26,9 @@ use Rattle.dw_read_report.specs.declared.read_events.Head.TheVariants as heads
 use Rattle.dw_print.specs.Fields.{escape, field, numbers_text, refusal_text}
 use Rattle.dw_print.specs.Answers.{answer_text, word_text}
 use Rattle.dw_print.specs.Events.{object_text, route_text}
-use Rattle.dw_read_report.specs.Readable.{IsLong, IsPassWord, IsReadableEvent, IsReadableObject, IsReadableRefusal, IsReadableRoute, IsShort}
+use Rattle.dw_print.specs.Typed.{IsLong, IsShort, IsTypedObject, IsTypedRefusal, IsTypedRoute}
+use Rattle.dw_read_report.specs.Readable.{IsPassWord}
+use Rattle.dw_read_report.proofs.Fits.{FitsEvent}
 use Rattle.dw_read_report.specs.Reading.{Reading, ◌>>=◌, after, after_label, before, both, field_at, long_number, meaning, number_at, short_number, statement_at, text_at}
 use Rattle.dw_read_report.specs.EventReading.{answer_after, answer_at, answer_word_at, begin_at, closed_text_at, commit_at, end_at, head_after, head_at, kind_at, nothing, object_at, object_of, open_at, pass_at, pass_word_at, rarer_kind_at, rarer_reason_at, reason_at, refresh_at, refusal_after, refusal_at, refuse_at, rollback_at, route_at, step_at, vacuum_after, vacuum_at, violation_at, wait_at, without_parenthesis}
 use Rattle.std.specs.Option.{option_map}
@@ -91,7 +93,7 @@ tail_text (events.Refresh cluster stamp) = decimal cluster ++ codes " stamp " ++
 tail_text (events.End session) = decimal session ++ codes "\n"
 
 abbrev pub IsOfKind : Kind → Event → Type 0
-IsOfKind kind event = IsReadableEvent event × (kind_of event ≡ kind)
+IsOfKind kind event = FitsEvent event × (kind_of event ≡ kind)
 
 abbrev AreShort : ℕ × ℕ → Type 0
 AreShort x = IsShort x.0 × IsShort x.1
@@ -136,11 +138,11 @@ takes_wait =
     (λ x fits. ((fits.0.0, fits.0.1, fits.1), refl))
     (takes_before (codes "\n") (takes_both takes_statement (takes_after (codes " for") takes_sessions)))
 
-takes_route : Takes route_text IsReadableRoute route_at
+takes_route : Takes route_text IsTypedRoute route_at
 unfolding route_at
 takes_route =
-    takes_otherwise (takes_word (codes "main") Main route_text IsReadableRoute refl tt)
-    (takes_meaning Cluster route_text IsReadableRoute (λ cluster. refl) (λ cluster fits. fits) (takes_after (codes "cluster ") takes_short))
+    takes_otherwise (takes_word (codes "main") Main route_text IsTypedRoute refl tt)
+    (takes_meaning Cluster route_text IsTypedRoute (λ cluster. refl) (λ cluster fits. fits) (takes_after (codes "cluster ") takes_short))
 
 takes_open : Takes tail_text (IsOfKind kinds.Open) open_at
 unfolding open_at
@@ -210,14 +212,14 @@ same_object_text x = by_form x.0 x.1
     by_form true name = refl
     by_form false name = refl
 
-readable_object : (rows : Bool) (name : List ℕ) → IsUtf8 name → IsReadableObject (object_of (rows, name))
+readable_object : (rows : Bool) (name : List ℕ) → IsUtf8 name → IsTypedObject (object_of (rows, name))
 readable_object true name utf8 = utf8
 readable_object false name utf8 = utf8
 
-takes_object : Takes object_text IsReadableObject object_at
+takes_object : Takes object_text IsTypedObject object_at
 unfolding object_at
 takes_object =
-    takes_meaning object_of object_text IsReadableObject same_object_text (λ x fits. readable_object x.0 x.1 fits.1)
+    takes_meaning object_of object_text IsTypedObject same_object_text (λ x fits. readable_object x.0 x.1 fits.1)
     (takes_both (takes_otherwise (takes_word (codes "rows(") true form_text (λ rows. Unit {0}) refl tt)
     (takes_word (codes "def(") false form_text (λ rows. Unit {0}) refl tt)) takes_closed_text)
 
@@ -375,9 +377,9 @@ refused_is (refusals.Limit count) = refl
 refused_is refusals.Memory = refl
 
 abbrev IsFor : Reason → Refusal → Type 0
-IsFor reason refusal = IsReadableRefusal refusal × (reason_of refusal ≡ reason)
+IsFor reason refusal = IsTypedRefusal refusal × (reason_of refusal ≡ reason)
 
-takes_nothing : (refusal : Refusal) → rest_text refusal ≡ [] → IsReadableRefusal refusal → Takes rest_text (IsFor (reason_of refusal)) (nothing refusal)
+takes_nothing : (refusal : Refusal) → rest_text refusal ≡ [] → IsTypedRefusal refusal → Takes rest_text (IsFor (reason_of refusal)) (nothing refusal)
 takes_nothing refusal none fits = record {
   whole = λ bytes rest a is. moved rest_text (IsFor (reason_of refusal)) bytes bytes rest refusal a is (rw none refl) (fits, refl);
 }
@@ -396,7 +398,7 @@ takes_refusal_after reasons.Vacuuming = takes_meaning refusals.Vacuuming rest_te
 takes_refusal_after reasons.Limit = takes_meaning refusals.Limit rest_text (IsFor reasons.Limit) (λ x. refl) (λ x fits. (fits, refl)) takes_long
 takes_refusal_after reasons.Memory = takes_nothing refusals.Memory refl tt
 
-takes_refusal : Takes refused_text IsReadableRefusal refusal_at
+takes_refusal : Takes refused_text IsTypedRefusal refusal_at
 unfolding refusal_at
 takes_refusal = record {
   whole = λ bytes rest refusal is.

@@ -22,7 +22,9 @@ use Rattle.dw_print.specs.Fields.{field, numbers_text, refusal_text}
 use Rattle.dw_print.specs.Rows.{fields_line, names_line}
 use Rattle.dw_print.specs.Answers.{answer_text, word_text}
 use Rattle.dw_print.specs.Events.{event_lines, journal_lines, object_text, route_text}
-use Rattle.dw_read_report.specs.Readable.{AreReadable, IsReadableEvent, IsReadableShape, IsReadableField}
+use Rattle.dw_print.specs.Typed.{IsTypedField}
+use Rattle.dw_read_report.specs.Readable.{AreReadable, IsWithinLimits}
+use Rattle.dw_read_report.proofs.Fits.{FitsEvent, events_readable}
 use Rattle.dw_read_report.specs.Reading.{names_at, row_at}
 use Rattle.dw_read_report.specs.EventReading.{head_at}
 use Rattle.dw_read_report.specs.ReportReading.{GivesReport, IsPrintedIn, IsReadOf, all_events_at, journal_at, shape_at, ends_journal, event_after, event_at, events_at, lined, on_ok, or_left, rows_at, with_items}
@@ -89,7 +91,7 @@ settled {A = A} P x a r rest is holds =
 
 abbrev AreRows : ℕ → List ℕ → List (List Field) → List ℕ → Type 0
 AreRows count bytes rows rest =
-    (bytes ≡ flat_map fields_line rows ++ rest) × AllByRecursion (AreReadable IsReadableField) rows × (length rows ≡ count)
+    (bytes ≡ flat_map fields_line rows ++ rest) × AllByRecursion (AreReadable IsTypedField) rows × (length rows ≡ count)
 
 rows_taken : (count : ℕ) (bytes rest : List ℕ) (rows : List (List Field)) → rows_at count bytes ≡ Ok (rows, rest) → AreRows count bytes rows rest
 rows_taken zero bytes rest rows is = settled (AreRows 0 bytes) [] rows bytes rest is (refl, tt, refl)
@@ -105,7 +107,7 @@ rows_taken (suc count) bytes rest rows is =
     )
 
 abbrev IsEvent : ℕ → List ℕ → Event → List ℕ → Type 0
-IsEvent number bytes event rest = (bytes ≡ event_lines number event ++ rest) × IsReadableEvent event
+IsEvent number bytes event rest = (bytes ≡ event_lines number event ++ rest) × FitsEvent event
 
 whole_is : (number : ℕ) (event : Event) (kind : Kind) (bytes rest : List ℕ) → bytes ≡ decimal number ++ kind_text kind ++ tail_text event ++ rest
     → kind_of event ≡ kind → bytes ≡ event_lines number event ++ rest
@@ -152,7 +154,7 @@ event_taken number bytes rest event is =
     event_after_taken number head.0.0 here.0 bytes head.0.1 rest event here.1 here.2 head.2
 
 abbrev AreEvents : ℕ → List ℕ → List Event → List ℕ → Type 0
-AreEvents number bytes events rest = (bytes ≡ journal_lines number events ++ rest) × AllByRecursion IsReadableEvent events
+AreEvents number bytes events rest = (bytes ≡ journal_lines number events ++ rest) × AllByRecursion FitsEvent events
 
 events_taken : (most number : ℕ) (bytes rest : List ℕ) (events : List Event) → events_at most number bytes ≡ Ok (events, rest)
     → AreEvents number bytes events rest
@@ -179,8 +181,8 @@ all_events_taken bytes rest events is = events_taken (length bytes) 1 bytes rest
 
 abbrev IsJournal : List ℕ → Journal → List ℕ → Type 0
 IsJournal bytes journal rest =
-    (bytes ≡ header journal.shape ++ journal_lines 1 journal.events ++ rest) × IsReadableShape journal.shape
-    × AllByRecursion IsReadableEvent journal.events
+    (bytes ≡ header journal.shape ++ journal_lines 1 journal.events ++ rest) × IsWithinLimits journal.shape
+    × AllByRecursion FitsEvent journal.events
 
 pub journal_taken : (bytes rest : List ℕ) (journal : Journal) → journal_at bytes ≡ Ok (journal, rest) → IsJournal bytes journal rest
 unfolding journal_at
@@ -217,8 +219,8 @@ journal_found bytes read x is of =
     ap (λ n. drop n bytes) place ∙ ap (λ b. drop (length (front ++ x.1) - length x.1) b) here.0 ∙ rest_is front x.1 in (
       subst (λ (j : Journal). bytes ≡ header j.shape ++ journal_lines 1 j.events ++ drop read.place bytes) of.0
           (here.0 ∙ ap (λ r. header x.0.shape ++ journal_lines 1 x.0.events ++ r) (sym rest)),
-      subst (λ (j : Journal). IsReadableShape j.shape) of.0 here.1,
-      subst (λ (j : Journal). AllByRecursion IsReadableEvent j.events) of.0 here.2,
+      subst (λ (j : Journal). IsWithinLimits j.shape) of.0 here.1,
+      events_readable read.journal.events (subst (λ (j : Journal). AllByRecursion FitsEvent j.events) of.0 here.2),
     )
 
 pub report_found : (bytes : List ℕ) (result : Result ReadReport ReportFault) → GivesReport result bytes (journal_at bytes)

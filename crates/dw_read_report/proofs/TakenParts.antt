@@ -12,7 +12,8 @@ use Rattle.std.proofs.lemmas.Fmt.{decimal-digits_value}
 use Rattle.dw_value.specs.declared.values.Field.TheVariants.{Null, Shown}
 use Rattle.dw_print.specs.Fields.{escape, field, shown_field, barred, numbers_text}
 use Rattle.dw_print.specs.Rows.{names_line, fields_line}
-use Rattle.dw_read_report.specs.Readable.{AreReadable, IsShort, IsLong, IsFromTo, IsReadableField, IsReadableShape}
+use Rattle.dw_print.specs.Typed.{IsLong, IsShort, IsTypedField}
+use Rattle.dw_read_report.specs.Readable.{AreReadable, IsFromTo, IsWithinLimits}
 use Rattle.dw_print.specs.Report.{header}
 use Rattle.dw_read_report.specs.ReportReading.{shape_at, shape_of}
 use Rattle.dw_read_report.specs.Reading.{Reading, ◌>>=◌, after_digits, after_label, all_items, barred_at, digits_at, ends_field, field_after, field_at, has_zero_first, items_at, long_number, names_at, number_at, number_of, row_at, sessions_at, short_number, shown_at, statement_at, text_at, unescaped, with_byte, with_front}
@@ -161,11 +162,11 @@ takes_text = record {
       ];
 }
 
-pub takes_shown : Takes shown_field IsReadableField shown_at
+pub takes_shown : Takes shown_field IsTypedField shown_at
 unfolding shown_at
 takes_shown =
-    takes_otherwise (takes_word (codes "\\N") Null shown_field IsReadableField refl tt)
-    (takes_meaning Shown shown_field IsReadableField (λ text. refl) (λ text utf8. utf8) takes_text)
+    takes_otherwise (takes_word (codes "\\N") Null shown_field IsTypedField refl tt)
+    (takes_meaning Shown shown_field IsTypedField (λ text. refl) (λ text utf8. utf8) takes_text)
 
 pub takes_statement : Takes place_text (λ x. IsShort x.0 × IsShort x.1) statement_at
 unfolding statement_at
@@ -226,10 +227,10 @@ takes_names =
     takes_meaning (λ names. names) names_line (AreReadable IsUtf8) (λ names. simp append_assoc) (λ names fits. fits)
     (takes_before (codes "\n") (takes_after (codes "= ") (takes_barred takes_text)))
 
-pub takes_row : Takes fields_line (AreReadable IsReadableField) row_at
+pub takes_row : Takes fields_line (AreReadable IsTypedField) row_at
 unfolding row_at
 takes_row =
-    takes_meaning (λ fields. fields) fields_line (AreReadable IsReadableField) (λ fields. simp append_assoc) (λ fields fits. fits)
+    takes_meaning (λ fields. fields) fields_line (AreReadable IsTypedField) (λ fields. simp append_assoc) (λ fields fits. fits)
     (takes_before (codes "\n") (takes_after (codes "- ") (takes_barred takes_shown)))
 
 -- the first line
@@ -246,10 +247,10 @@ header_is x =
     first_line (codes "warehouse nodes ") (decimal x.0.0.0.0) (codes " slices ") (decimal x.0.0.0.1) (codes " clusters ")
     (decimal x.0.0.1) (codes " slots ") (decimal x.0.1) (codes " sessions ") (decimal x.1) (codes "\n")
 
-pub takes_shape : Takes header IsReadableShape shape_at
+pub takes_shape : Takes header IsWithinLimits shape_at
 unfolding shape_at
 takes_shape =
-    takes_meaning shape_of header IsReadableShape header_is (λ x fits. (fits.0.0.0.0, fits.0.0.0.1, fits.0.0.1, fits.0.1, fits.1))
+    takes_meaning shape_of header IsWithinLimits header_is (λ x fits. (fits.0.0.0.0, fits.0.0.0.1, fits.0.0.1, fits.0.1, fits.1))
     (takes_before (codes "\n") (takes_both (takes_both (takes_both (takes_both
     (takes_after (codes "warehouse nodes ") (takes_number 1 16)) (takes_after (codes " slices ") (takes_number 1 16)))
     (takes_after (codes " clusters ") (takes_number 0 9))) (takes_after (codes " slots ") (takes_number 1 50)))

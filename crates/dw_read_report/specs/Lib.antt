@@ -2,3 +2,4 @@ pub mod Reading
 pub mod EventReading
 pub mod ReportReading
 pub mod Readable
+pub mod Items

@@ -1,50 +1,37 @@
--- Which journals a report can be read back to: numbers fit their types and limits, texts are in UTF-8, an answer has the
--- words that its form goes with, and what stands in a line by names or fields has at least one.
-use Rattle.std.specs.Prelude.{◌≡◌, ℕ, ◌≤◌, List, [], ◌∷◌, length}
+-- Which journals a report can be read back to: numbers and texts are of the types of their fields, the first line is
+-- within its limits, an answer has the words that its form goes with, and what stands in a line by names or fields has at
+-- least one.
+use Rattle.std.specs.Prelude.{◌≡◌, ℕ, ◌≤◌, List, [], ◌∷◌}
 use Rattle.std.specs.List.{AllByRecursion}
-use Rattle.std.specs.Str.{IsUtf8}
-use Rattle.dw_value.specs.declared.values.Field.{Field}
-use Rattle.dw_value.specs.declared.values.Field.TheVariants as fields
 use Rattle.dw_model.specs.declared.answers.Word.{Word}
 use Rattle.dw_model.specs.declared.answers.Word.TheVariants as words
 use Rattle.dw_model.specs.declared.answers.Answer.{Answer}
 use Rattle.dw_model.specs.declared.answers.Answer.TheVariants as answers
-use Rattle.dw_model.specs.declared.objects.Object.{Object}
-use Rattle.dw_model.specs.declared.objects.Object.TheVariants as objects
-use Rattle.dw_model.specs.declared.refusals.Refusal.{Refusal}
-use Rattle.dw_model.specs.declared.refusals.Refusal.TheVariants as refusals
 use Rattle.dw_journal.specs.declared.Shape.{Shape}
-use Rattle.dw_journal.specs.declared.Route.{Route}
-use Rattle.dw_journal.specs.declared.Route.TheVariants as routes
 use Rattle.dw_journal.specs.declared.Event.{Event}
 use Rattle.dw_journal.specs.declared.Event.TheVariants as events
 use Rattle.dw_journal.specs.declared.Journal.{Journal}
-
--- a number that fits 32 bits, and one that fits 64 bits
-abbrev pub IsShort : ℕ → Type 0
-IsShort number = number ≤ 4294967295
-
-abbrev pub IsLong : ℕ → Type 0
-IsLong number = number ≤ 18446744073709551615
+use Rattle.dw_print.specs.Typed.{IsOfTypes, IsTypedEvent}
 
 -- a number from `least` to `most`
 abbrev pub IsFromTo : ℕ → ℕ → ℕ → Type 0
 IsFromTo least most number = (least ≤ number) × (number ≤ most)
 
 -- a shape within its limits
-abbrev pub IsReadableShape : Shape → Type 0
-IsReadableShape shape =
+abbrev pub IsWithinLimits : Shape → Type 0
+IsWithinLimits shape =
     IsFromTo 1 16 shape.nodes × IsFromTo 1 16 shape.slices × IsFromTo 0 9 shape.clusters × IsFromTo 1 50 shape.slots
     × IsFromTo 1 64 shape.sessions
+
+-- there is at least one
+abbrev pub HasAny : {A : Type 0} → List A → Type 0
+HasAny [] = ⊥
+HasAny (first ∷ others) = Unit {0}
 
 -- there is at least one, and each fits
 abbrev pub AreReadable : {A : Type 0} → (A → Type 0) → List A → Type 0
 AreReadable Fits [] = ⊥
 AreReadable Fits (first ∷ others) = Fits first × AllByRecursion Fits others
-
-abbrev pub IsReadableField : Field → Type 0
-IsReadableField fields.Null = Unit {0}
-IsReadableField (fields.Shown text) = IsUtf8 text
 
 -- the words of statements that may have nothing to do
 abbrev pub IsPassWord : Word → Type 0
@@ -60,54 +47,28 @@ IsPlainWord words.DropTable = Unit {0}
 IsPlainWord words.LockTable = Unit {0}
 IsPlainWord word = ⊥
 
-abbrev pub IsReadableAnswer : Answer → Type 0
-IsReadableAnswer (answers.Plain word) = IsPlainWord word
-IsReadableAnswer (answers.Count word count) = (word ≡ words.Insert) × IsLong count
-IsReadableAnswer (answers.Rows word names rows) =
-    (word ≡ words.Select) × IsLong (length rows) × AreReadable IsUtf8 names × AllByRecursion (AreReadable IsReadableField) rows
+-- an answer has the words of its form, and rows have names and fields
+abbrev pub HasAnswerWords : Answer → Type 0
+HasAnswerWords (answers.Plain word) = IsPlainWord word
+HasAnswerWords (answers.Count word count) = word ≡ words.Insert
+HasAnswerWords (answers.Rows word names rows) = (word ≡ words.Select) × HasAny names × AllByRecursion HasAny rows
 
-abbrev pub IsReadableRoute : Route → Type 0
-IsReadableRoute routes.Main = Unit {0}
-IsReadableRoute (routes.Cluster cluster) = IsShort cluster
+-- so has what passes the words of a statement that may have nothing to do
+abbrev pub HasEventWords : Event → Type 0
+HasEventWords (events.Pass session statement word) = IsPassWord word
+HasEventWords (events.Answer session statement answer) = HasAnswerWords answer
+HasEventWords event = Unit {0}
 
-abbrev pub IsReadableObject : Object → Type 0
-IsReadableObject (objects.Rows name) = IsUtf8 name
-IsReadableObject (objects.Def name) = IsUtf8 name
+-- each event has the words that a report can say; those of a legal journal do
+abbrev pub HasReportWords : Journal → Type 0
+HasReportWords journal = AllByRecursion HasEventWords journal.events
 
-abbrev pub IsReadableRefusal : Refusal → Type 0
-IsReadableRefusal (refusals.Syntax place) = IsLong place
-IsReadableRefusal (refusals.Unknown name) = IsUtf8 name
-IsReadableRefusal (refusals.Exists name) = IsUtf8 name
-IsReadableRefusal (refusals.NullIn column) = IsUtf8 column
-IsReadableRefusal (refusals.Deadlock cycle) = AllByRecursion IsShort cycle
-IsReadableRefusal (refusals.Vacuuming session) = IsShort session
-IsReadableRefusal (refusals.Limit count) = IsLong count
-IsReadableRefusal refusal = Unit {0}
-
--- what an event says besides its statement, or its cluster or session
+-- an event that a report can be read back to
 abbrev pub IsReadableEvent : Event → Type 0
-IsReadableEvent (events.Begin session statement) = IsShort session × IsShort statement
-IsReadableEvent (events.Pass session statement word) = IsShort session × IsShort statement × IsPassWord word
-IsReadableEvent (events.Wait session statement holders) =
-    IsShort session × IsShort statement × AllByRecursion IsShort holders
-IsReadableEvent (events.Opened session statement snapshot route) =
-    IsShort session × IsShort statement × IsLong snapshot × IsReadableRoute route
-IsReadableEvent (events.Answer session statement answer) = IsShort session × IsShort statement × IsReadableAnswer answer
-IsReadableEvent (events.Commit session statement stamp low high) =
-    IsShort session × IsShort statement × IsLong stamp × IsLong low × IsLong high
-IsReadableEvent (events.Violation session statement low high object) =
-    IsShort session × IsShort statement × IsLong low × IsLong high × IsReadableObject object
-IsReadableEvent (events.Refuse session statement refusal) = IsShort session × IsShort statement × IsReadableRefusal refusal
-IsReadableEvent (events.Rollback session statement) = IsShort session × IsShort statement
-IsReadableEvent (events.VacuumBegin session statement table) = IsShort session × IsShort statement × IsUtf8 table
-IsReadableEvent (events.VacuumSlice session statement slice horizon) =
-    IsShort session × IsShort statement × IsShort slice × IsLong horizon
-IsReadableEvent (events.VacuumEnd session statement) = IsShort session × IsShort statement
-IsReadableEvent (events.Refresh cluster stamp) = IsShort cluster × IsLong stamp
-IsReadableEvent (events.End session) = IsShort session
+IsReadableEvent event = IsTypedEvent event × HasEventWords event
 
--- a journal that a report can be read back to, whose events are numbered within 64 bits
+-- a journal that a report can be read back to
 pub record IsReadable (journal : Journal) : Type 0 where
-  pub shape : IsReadableShape journal.shape
-  pub events : AllByRecursion IsReadableEvent journal.events
-  pub numbers : IsLong (length journal.events)
+  pub types : IsOfTypes journal
+  pub limits : IsWithinLimits journal.shape
+  pub words : HasReportWords journal

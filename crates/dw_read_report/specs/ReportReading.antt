@@ -20,7 +20,7 @@ use Rattle.dw_read_report.specs.declared.reading.ReadReport.{ReadReport}
 use Rattle.dw_read_report.specs.declared.read_events.Head.{Head}
 use Rattle.dw_read_report.specs.declared.read_events.Head.TheVariants as heads
 use Rattle.dw_print.specs.Events.{journal_lines}
-use Rattle.dw_read_report.specs.Readable.{IsReadableEvent, IsReadableShape}
+use Rattle.dw_read_report.specs.Readable.{IsReadableEvent, IsWithinLimits}
 use Rattle.dw_print.specs.Report.{header}
 use Rattle.dw_read_report.specs.Reading.{Reading, after, after_label, both, line, names_at, number_at, row_at}
 use Rattle.dw_read_report.specs.EventReading.{head_at}
@@ -132,4 +132,4 @@ GivesReport (Err (reports.Bad number)) bytes part = (left : ℕ) × (part ≡ Er
 abbrev pub IsPrintedIn : List ℕ → ReadReport → Type 0
 IsPrintedIn bytes read =
     (bytes ≡ header read.journal.shape ++ journal_lines 1 read.journal.events ++ drop read.place bytes)
-    × IsReadableShape read.journal.shape × AllByRecursion IsReadableEvent read.journal.events
+    × IsWithinLimits read.journal.shape × AllByRecursion IsReadableEvent read.journal.events

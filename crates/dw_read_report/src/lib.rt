@@ -13,7 +13,9 @@ mod read_refusals;
 mod reading;
 
 pub use faults::ReportFault;
-pub use laws::{one_reading, printed_reports_are_read, read_parts_are_printed};
+pub use laws::{
+    legal_answers_have_words, one_reading, printed_reports_are_read, read_parts_are_printed,
+};
 pub use reading::{ReadReport, read_report};
 
 #[cfg(test)]
