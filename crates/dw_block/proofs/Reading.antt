@@ -24,7 +24,7 @@ use Rattle.dw_block.specs.Blocks.{encoded_numbers, encoded_texts, items_bytes, b
 use Rattle.dw_block.specs.Stored.{Spells, Content, IsPlaced}
 use Rattle.dw_block.proofs.Places.{null_is, some_number, some_text}
 use Rattle.dw_block.specs.Unique.{Values-set}
-use Rattle.dw_block.proofs.SameBytes.{Zone-set, length-null_bits, front_is, back_is, are_texts, few_items, AllBlockTexts-prop}
+use Rattle.dw_block.proofs.SameBytes.{Zone-set, length-null_bits, front_is, back_is, are_texts, few_items, AllBlockTexts-prop, AllValues-prop}
 
 -- the NULLs among values
 abbrev nulls_in : List Value → ℕ
@@ -66,6 +66,12 @@ module _ (encoding : Encoding) (kind : Kind) (count : ℕ) (bytes : List ℕ) (z
 
   pub nulls_within : zone.nulls ≤ count
   nulls_within = ∥∥₁_elim x.1.spells le_prop (λ s. omega (arith, ap (λ z. z.nulls) s.zone_is, count_by-le-length is_null x.0, s.counted))
+
+  pub each_is : All (IsValueOf kind) x.0
+  each_is = ∥∥₁_elim x.1.spells (AllValues-prop kind x.0) (λ s. s.each)
+
+  pub few_values : length x.0 ≤ 4096
+  few_values = ∥∥₁_elim x.1.spells le_prop (λ s. omega (arith, s.counted, s.few))
 
   pub content_is : (values : List Value) → Spells encoding kind count bytes zone values → x.0 ≡ values
   content_is values s = sym (x.1.only values s)

@@ -16,6 +16,7 @@ use Rattle.dw_block.specs.Nulls.{null_bytes, null_len, null_bits, bit_at}
 use Rattle.dw_value.specs.Encodings.{width}
 use Rattle.dw_block.specs.Blocks.{encoded_numbers, encoded_texts, items_bytes, IsValueOf, IsBlockText, number_in, text_in, numbers_of, texts_of, value_of}
 use Rattle.dw_block.specs.Stored.{IsSpelled, Spells}
+use Rattle.dw_block.specs.Unique.{Value-set}
 use Rattle.dw_block.proofs.Places.{null_at, null_is, some_number, some_text}
 use Rattle.dw_block.proofs.Forms.{texts_form, numbers_form, IsWidth-width}
 
@@ -114,3 +115,9 @@ IsBlockText-prop text = hlevel props
 
 pub AllBlockTexts-prop : (texts : List (List ℕ)) → IsProp (All IsBlockText texts)
 AllBlockTexts-prop texts = hlevel (props, IsBlockText-prop)
+
+IsValueOf-prop : (kind : Kind) (value : Value) → IsProp (IsValueOf kind value)
+IsValueOf-prop kind value = hlevel (props, Value-set)
+
+pub AllValues-prop : (kind : Kind) (values : List Value) → IsProp (All (IsValueOf kind) values)
+AllValues-prop kind values = hlevel (props, IsValueOf-prop)

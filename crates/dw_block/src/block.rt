@@ -154,9 +154,11 @@ impl Block {
         self.bytes.as_slice().len() as u64
     }
 
-    /// The values that the block was made of, on its own allocator.
+    /// The values that the block was made of, on its own allocator. They stand as a column of its kind holds them.
     pub fn values(&self) -> Result<List<Value>, AllocError>
-        ensures { IfOk result (λ values. values ≡ self.now.values) }
+        ensures values { IfOk result (λ values. values ≡ self.now.values) }
+        ensures each { IfOk result (λ values. All (IsValueOf self.now.kind) values) }
+        ensures few { IfOk result (λ values. length values ≤ 4096) }
     {
         let alloc = *self.bytes.allocator();
         let count = self.count as usize;

@@ -1,0 +1,10 @@
+pub mod Grids
+pub mod Packing
+pub mod Marking
+pub mod Searching
+pub mod Distinct
+pub mod Cutting
+pub mod Blocks
+pub mod Changing
+pub mod Rising
+pub mod Seen
