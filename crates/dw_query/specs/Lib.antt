@@ -1,0 +1,5 @@
+pub mod Binding
+pub mod BindingRows
+pub mod Filling
+pub mod Outcomes
+pub mod Stages
