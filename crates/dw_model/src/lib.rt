@@ -25,3 +25,6 @@ pub use objects::{Object, add_objects};
 pub use refusals::Refusal;
 pub use statements::{ColumnSpec, Literal, Query, Statement, StyleWord, TableSpec, Test};
 pub use tables::{Column, Table, TableDef};
+
+#[cfg(test)]
+mod tests;
