@@ -46,6 +46,13 @@ impl Sight {
         Ok(Sight { sources, names })
     }
 
+    /// The sources in sight, from left to right.
+    pub fn sources(&self) -> &[NamedSource]
+        ensures { result.now ≡ self.now }
+    {
+        self.sources.as_slice()
+    }
+
     /// The column that a name means, after its source's name where that is written: `None` where there is none or more
     /// than one.
     pub(crate) fn find(&self, source: &Option<Text>, name: &Text) -> Option<Found>
