@@ -90,7 +90,6 @@ fn count_of(aggregates: bool) -> Result<Typed, KindFault>
 
 /// An expression of known names with its kind. `aggregates` says whether aggregates may stand in it.
 #[cycle(typed)]
-#[tactic(auto, using(crate::proofs::Typing::after_nothing))]
 fn typed(alloc: Global, sight: &Sight, aggregates: bool, expr: &Expr) -> Result<Typed, KindFault>
     ensures { Gains (typed sight.now aggregates expr.now) result }
 {
@@ -142,7 +141,7 @@ fn typed(alloc: Global, sight: &Sight, aggregates: bool, expr: &Expr) -> Result<
         }
         Node::InList(negated, a, list) => {
             let a = typed(alloc, sight, aggregates, a)?;
-            let list = typed_all(alloc, sight, aggregates, list, List::new(alloc))?;
+            let list = typed_all(alloc, sight, aggregates, list)?;
             Ok(Typed::Decided(in_of(alloc, *negated, a, list)?))
         }
         Node::Like(negated, a, pattern) => {
@@ -151,11 +150,11 @@ fn typed(alloc: Global, sight: &Sight, aggregates: bool, expr: &Expr) -> Result<
             Ok(Typed::Decided(like_of(alloc, *negated, a, pattern)?))
         }
         Node::Case(arms, None) => {
-            let arms = typed_arms(alloc, sight, aggregates, arms, List::new(alloc))?;
+            let arms = typed_arms(alloc, sight, aggregates, arms)?;
             Ok(Typed::Decided(choice_of(alloc, arms)?))
         }
         Node::Case(arms, Some(other)) => {
-            let arms = typed_arms(alloc, sight, aggregates, arms, List::new(alloc))?;
+            let arms = typed_arms(alloc, sight, aggregates, arms)?;
             let other = typed(alloc, sight, aggregates, other)?;
             Ok(Typed::Decided(choice_else_of(alloc, arms, other)?))
         }
@@ -164,7 +163,7 @@ fn typed(alloc: Global, sight: &Sight, aggregates: bool, expr: &Expr) -> Result<
             Ok(Typed::Decided(cast_of(alloc, *kind, a)?))
         }
         Node::Coalesce(list) => {
-            let list = typed_all(alloc, sight, aggregates, list, List::new(alloc))?;
+            let list = typed_all(alloc, sight, aggregates, list)?;
             Ok(Typed::Decided(coalesce_of(alloc, list)?))
         }
         Node::CountRows => count_of(aggregates),
@@ -178,51 +177,46 @@ fn typed(alloc: Global, sight: &Sight, aggregates: bool, expr: &Expr) -> Result<
     }
 }
 
-/// Those before, and the expressions of a row with their kinds.
+/// The expressions of a row with their kinds.
 #[cycle(typed)]
-#[tactic(auto, using(crate::proofs::Typing::after_end, crate::proofs::Typing::after_more))]
+#[tactic(auto, using(crate::proofs::Typing::after_nothing, crate::proofs::Typing::after_end, crate::proofs::Typing::after_more))]
 fn typed_all(
     alloc: Global,
     sight: &Sight,
     aggregates: bool,
     list: &Exprs,
-    before: List<Typed>,
 ) -> Result<List<Typed>, KindFault>
-    ensures { Gains (after before (typed_all sight.now aggregates list.now)) result }
+    ensures { Gains (typed_all sight.now aggregates list.now) result }
 {
-    match &list.node {
-        ExprsNode::End => Ok(before),
-        ExprsNode::More(a, rest) => {
-            let mut before = before;
-            let a = typed(alloc, sight, aggregates, a)?;
-            before.push(a)?;
-            typed_all(alloc, sight, aggregates, rest, before)
-        }
+    let mut items = List::new(alloc);
+    let mut rest = list;
+    while let ExprsNode::More(a, others) = &rest.node {
+        items.push(typed(alloc, sight, aggregates, a)?)?;
+        rest = others;
     }
+    Ok(items)
 }
 
-/// Those before, and the branches of CASE with their kinds.
+/// The branches of CASE with their kinds.
 #[cycle(typed)]
-#[tactic(auto, using(crate::proofs::Typing::after_end, crate::proofs::Typing::after_more))]
+#[tactic(auto, using(crate::proofs::Typing::after_nothing, crate::proofs::Typing::after_end, crate::proofs::Typing::after_more))]
 fn typed_arms(
     alloc: Global,
     sight: &Sight,
     aggregates: bool,
     arms: &Arms,
-    before: List<TypedArm>,
 ) -> Result<List<TypedArm>, KindFault>
-    ensures { Gains (after before (typed_arms sight.now aggregates arms.now)) result }
+    ensures { Gains (typed_arms sight.now aggregates arms.now) result }
 {
-    match &arms.node {
-        ArmsNode::End => Ok(before),
-        ArmsNode::More(condition, value, rest) => {
-            let mut before = before;
-            let condition = typed(alloc, sight, aggregates, condition)?;
-            let value = typed(alloc, sight, aggregates, value)?;
-            before.push(arm_of(condition, value)?)?;
-            typed_arms(alloc, sight, aggregates, rest, before)
-        }
+    let mut items = List::new(alloc);
+    let mut rest = arms;
+    while let ArmsNode::More(condition, value, others) = &rest.node {
+        let condition = typed(alloc, sight, aggregates, condition)?;
+        let value = typed(alloc, sight, aggregates, value)?;
+        items.push(arm_of(condition, value)?)?;
+        rest = others;
     }
+    Ok(items)
 }
 
 /// An expression as it is wanted where it stands.

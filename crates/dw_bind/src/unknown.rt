@@ -60,10 +60,14 @@ pub(crate) fn unknown_in<'a>(sight: &Sight, expr: &'a Expr) -> Option<&'a Text>
 fn unknown_in_all<'a>(sight: &Sight, list: &'a Exprs) -> Option<&'a Text>
     ensures { option_copied result ≡ first_unknown sight.now (references_all list.now) }
 {
-    match &list.node {
-        ExprsNode::End => None,
-        ExprsNode::More(a, rest) => first_name(unknown_in(sight, a), unknown_in_all(sight, rest)),
+    let mut rest = list;
+    while let ExprsNode::More(a, others) = &rest.node {
+        if let Some(name) = unknown_in(sight, a) {
+            return Some(name);
+        }
+        rest = others;
     }
+    None
 }
 
 /// The same in branches.
@@ -72,11 +76,12 @@ fn unknown_in_all<'a>(sight: &Sight, list: &'a Exprs) -> Option<&'a Text>
 fn unknown_in_arms<'a>(sight: &Sight, arms: &'a Arms) -> Option<&'a Text>
     ensures { option_copied result ≡ first_unknown sight.now (references_in arms.now) }
 {
-    match &arms.node {
-        ArmsNode::End => None,
-        ArmsNode::More(condition, value, rest) => {
-            let after = first_name(unknown_in(sight, value), unknown_in_arms(sight, rest));
-            first_name(unknown_in(sight, condition), after)
+    let mut rest = arms;
+    while let ArmsNode::More(condition, value, others) = &rest.node {
+        if let Some(name) = first_name(unknown_in(sight, condition), unknown_in(sight, value)) {
+            return Some(name);
         }
+        rest = others;
     }
+    None
 }
