@@ -1,5 +1,5 @@
 -- Parts that are bound, one after another, and a turn of a loop over them.
-use Rattle.std.proofs.Common.{◌≡◌, ℕ, suc, zero, ◌+◌, ◌<◌, ◌≤◌, List, [], ◌∷◌, ◌++◌, length, map, flat_map, drop, get_or, slice_get, unwrap_or, Option, Some, None, Result, Ok, Err, Bool, true, false, refl, ap, sym, ◌∙◌, append_assoc, arith}
+use Rattle.std.proofs.Common.{◌≡◌, ℕ, suc, zero, ◌+◌, ◌<◌, ◌≤◌, List, [], ◌∷◌, ◌++◌, length, map, flat_map, drop, get_or, Option, Some, None, Result, Ok, Err, Bool, true, false, refl, ap, sym, ◌∙◌, append_assoc, arith}
 use Rattle.std.proofs.lemmas.List.{append-nil, drop_more, at_drop_all, map-append}
 use Rattle.dw_expr.specs.declared.faults.BindFault.{BindFault}
 use Rattle.dw_expr.specs.declared.faults.BindFault.TheVariants.{Unknown, Clash, Memory}

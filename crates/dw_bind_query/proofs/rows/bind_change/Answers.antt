@@ -1,5 +1,5 @@
 -- New values and condition, put together.
-use Rattle.std.proofs.Common.{◌≡◌, Bool, List, map, ◌∙◌, ap, sym, subst}
+use Rattle.std.proofs.Common.{◌≡◌, Bool, List, map, ◌∙◌, ap, subst}
 use Rattle.dw_query.specs.declared.filling.Target.{Target}
 use Rattle.dw_query.specs.Binding.{beside, bound_condition, bound_parts}
 use Rattle.dw_query.specs.BindingRows.{a_set, change_with, clash_if, is_repeated, set_name, targets_in}
