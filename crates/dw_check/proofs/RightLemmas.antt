@@ -1,5 +1,5 @@
 -- The report of a right journal is answered as right, and where words name one, that is due.
-use Rattle.std.proofs.Common.{◌≡◌, ℕ, ◌≤◌, Bool, true, false, ◌&&◌, List, [], ◌∷◌, length, map, ap, sym, subst, refl, ◌∙◌, arith}
+use Rattle.std.proofs.Common.{◌≡◌, ℕ, Bool, true, false, ◌&&◌, List, [], ◌∷◌, length, map, ap, sym, subst, refl, ◌∙◌, arith}
 use Rattle.std.specs.Prelude.{Some, None, Result, if◌then◌else◌, not, nat_le}
 use Rattle.std.specs.Prelude.{Ok as Had}
 use Rattle.std.proofs.lemmas.Bool.{leb-true}
@@ -23,28 +23,25 @@ use Rattle.dw_read_report.specs.Readable.{IsFromTo, IsReadable, IsWithinLimits}
 use Rattle.dw_read_report.proofs.AgainLines.{report_again}
 use Rattle.dw_read_report.proofs.LegalWords.{journal_words}
 use Rattle.dw_input.specs.Words.{are_names, is_count, is_generator, names_of}
-use Rattle.dw_input.specs.Files.{bytes_under, file_of, files_of}
-use Rattle.dw_input.specs.Scripts.{bad_script, givens_of, world_of, world_under}
+use Rattle.dw_input.specs.Files.{bytes_under, files_of}
+use Rattle.dw_input.specs.Scripts.{givens_of, world_of, world_under}
 use Rattle.dw_input.proofs.FilesHad.{bytes_there, scripts_had}
 use Rattle.dw_check.specs.Answers.{IsAnswer, IsAnswered, IsDue, IsDueAfter, IsDueOf, due_of_bytes, due_of_files, due_of_names, due_of_scripts, journal_limit, read_by}
-use Rattle.dw_check.specs.NamedReports.{IsRightJournal, NamesReport}
+use Rattle.dw_check.specs.NamedReports.{NamesReport}
 use Rattle.dw_check.proofs.ItemLemmas.{read_items}
 
--- a legal journal of scripts whose SELECTs have items is readable, so its report is read back to it
-readable : (world : World) (journal : Journal) → EachHasItems world → IsOfTypes journal → IsWithinLimits journal.shape → IsLegal world journal → IsReadable journal
-readable world journal items types limits legal = record {
-  types = types;
-  limits = limits;
-  words = journal_words world journal items legal;
-}
+-- the report of a readable journal is read back to it
+pub readable_answer : (world : World) (journal : Journal) → IsReadable journal → IsLegal world journal → Follows world journal → IsAnswer world (report world journal) Ok
+readable_answer world journal readable legal follows =
+    let again = report_again journal (contents (history_of world journal)) (map (λ commit. commit.stamp) (serial_order journal)) readable in
+    subst (λ (read : Result (Journal × List ℕ) ℕ). IsAnswered world (report world journal) (read_by (report world journal) read) Ok) (sym again)
+    (legal, follows, refl)
 
+-- a legal journal of scripts whose SELECTs have items is readable
 pub right_answer : (world : World) (journal : Journal) → EachHasItems world → IsOfTypes journal → IsWithinLimits journal.shape → IsLegal world journal → Follows world journal
     → IsAnswer world (report world journal) Ok
 right_answer world journal items types limits legal follows =
-    let stamps = map (λ commit. commit.stamp) (serial_order journal) in
-    let again = report_again journal (contents (history_of world journal)) stamps (readable world journal items types limits legal) in
-    subst (λ (read : Result (Journal × List ℕ) ℕ). IsAnswered world (report world journal) (read_by (report world journal) read) Ok) (sym again)
-    (legal, follows, refl)
+    readable_answer world journal (record { types = types; limits = limits; words = journal_words world journal items legal }) legal follows
 
 -- words of the form name 1 to 64 scripts
 named_by : {T : Type 0} (a b c : Bool) (x y : T) → (if a && b && c then Some x else None) ≡ Some y → (c ≡ true) × (x ≡ y)

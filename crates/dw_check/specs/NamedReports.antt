@@ -24,8 +24,8 @@ pub record IsRightJournal (world : World) (journal : Journal) : Type 0 where
   pub follows : Follows world journal
 
 -- The words name such a journal's report and its scripts: they have the form of the command, the report and the scripts
--- are there and within their limits, each script is well formed, and the report's bytes are those that the journal gives
--- beside the scripts.
+-- are there and within their limits, each script is well formed, and the report's bytes are those of the journal's
+-- report beside the scripts.
 pub record NamesReport (words : List (List ℕ)) (held : Held) : Type 0 where
   pub report_name : List ℕ
   pub script_names : List (List ℕ)

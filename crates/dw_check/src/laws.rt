@@ -8,16 +8,19 @@ ghost use Rattle.dw_journal.specs.Legal.{IsLegal};
 ghost use Rattle.dw_print.specs.Report.{report};
 ghost use Rattle.dw_print.specs.Typed.{IsOfTypes};
 ghost use Rattle.dw_read_report.specs.Items.{EachHasItems};
-ghost use Rattle.dw_read_report.specs.Readable.{IsWithinLimits};
+ghost use Rattle.dw_read_report.specs.Readable.{IsReadable, IsWithinLimits};
 ghost use Rattle.dw_script.specs.declared.status.Status.TheVariants.{Ok as Right};
 ghost use Rattle.dw_input.specs.Scripts.{givens_of, world_of};
 ghost use Rattle.dw_check.specs.Answers.{IsAnswer, IsDue};
 ghost use Rattle.dw_check.specs.NamedReports.{NamesReport};
 
-/// The report of a journal that is legal and follows from the scripts is answered as right, where each SELECT of the
-/// scripts has an item, the journal's numbers and texts are of the types of their fields, and its shape is within the
-/// limits. So where words name the report of such a journal, as a run leaves it, and its scripts, it is due that it is right.
+/// The report of a journal that is legal and follows from the scripts is answered as right where it is readable; and so
+/// where each SELECT of the scripts has an item, the journal's numbers and texts are of the types of their fields, and
+/// its shape is within the limits. So where words name the report of such a journal, as a run leaves it, and its
+/// scripts, it is due that it is right.
 pub fn right_reports_are_due()
+    ensures readable { (world : Beside) (journal : Events) → IsReadable journal → IsLegal world journal →
+        Follows world journal → IsAnswer world (report world journal) Right }
     ensures answer { (world : Beside) (journal : Events) → EachHasItems world → IsOfTypes journal →
         IsWithinLimits journal.shape → IsLegal world journal → Follows world journal →
         IsAnswer world (report world journal) Right }
