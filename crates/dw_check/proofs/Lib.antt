@@ -1,2 +1,4 @@
 pub mod EndLemmas
 pub mod DueLemmas
+pub mod ItemLemmas
+pub mod RightLemmas

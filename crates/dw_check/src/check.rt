@@ -15,6 +15,7 @@ ghost use Rattle.dw_input.specs.Scripts.{givens_of, world_of, world_under, bad_s
 ghost use Rattle.dw_input.specs.Statuses.{ComesBefore, ComesOfBytes};
 ghost use Rattle.dw_check.specs.Answers.{IsAnswer, IsJudged, IsDue, IsDueAfter, IsDueOfNames, IsReportOf, MayAnswer, due_of_scripts};
 ghost use Rattle.dw_check.specs.Answers.{right_text, world_in, bytes_in};
+ghost use Rattle.dw_check.specs.NamedReports.{NamesReport};
 
 use crate::ends::wrong_line;
 use dw_input::{MAX_SCRIPT, names, read_file, read_files, read_scripts};
@@ -46,6 +47,8 @@ const MAX_JOURNAL: usize = 67_108_864;
 /// line that isn't the journal's. `Memory` may come in place of any but `Usage`. `ReadFault` and `WriteFault` come only
 /// where the count of faults of `files` or of `out` rose in this call. After a `WriteFault` the sink has a part of the
 /// answer from the front; after any other status but `Ok` it has what it had.
+///
+/// Where the words name the report of a run and its scripts, and no fault came, the status is `Ok` or `Memory`.
 pub fn top_check<F: Files, S: Sink>(
     alloc: Global,
     words: &[Text],
@@ -70,6 +73,9 @@ pub fn top_check<F: Files, S: Sink>(
         (journal : Events) × IsReportOf (world_in words.now h) (bytes_in words.now h) journal
         × ((n : ℕ) × (S.has out.new ≡ appended (S.has out.old) (take n (right_text journal)))) }
     ensures complete { (h : Held) → F.held files.old ≡ Some h → IsDue words.now h Status.Ok →
+        ¬ (Rose (F.faults files.old) (F.faults files.new)) → ¬ (Rose (S.faults out.old) (S.faults out.new)) →
+        (result ≡ Status.Ok) ⊎ (result ≡ Status.Memory) }
+    ensures takes { (h : Held) → F.held files.old ≡ Some h → NamesReport words.now h →
         ¬ (Rose (F.faults files.old) (F.faults files.new)) → ¬ (Rose (S.faults out.old) (S.faults out.new)) →
         (result ≡ Status.Ok) ⊎ (result ≡ Status.Memory) }
 {

@@ -6,7 +6,7 @@ mod ends;
 mod laws;
 
 pub use check::top_check;
-pub use laws::right_reports_are_due;
+pub use laws::{read_scripts_have_items, right_reports_are_due};
 
 #[cfg(test)]
 mod tests;

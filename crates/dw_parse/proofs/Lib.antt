@@ -1,3 +1,3 @@
 mod TableLemmas
 mod CreateLemmas
-mod StatementLemmas
+pub mod StatementLemmas

@@ -13,6 +13,7 @@ use Rattle.dw_journal.specs.Follows.{Follows}
 use Rattle.dw_journal.specs.Legal.{IsLegal}
 use Rattle.dw_journal.specs.Serial.{IsSerial}
 use Rattle.dw_journal.specs.Driven.{Move, OfSession, IsDriven}
+use Rattle.dw_print.specs.Typed.{IsOfTypes}
 use Rattle.dw_input.specs.Words.{names_of}
 use Rattle.dw_input.specs.Files.{bytes_under}
 use Rattle.dw_input.specs.Scripts.{world_of, world_under}
@@ -50,3 +51,8 @@ pub record IsRun (world : World) (moves : List Move) (journal : Journal) : Type 
   pub legal : IsLegal world journal
   pub follows : Follows world journal
   pub serial : IsSerial world journal
+
+-- a journal of a run that is printed: its numbers and texts are of the types of their fields, too
+pub record IsPrintedRun (world : World) (moves : List Move) (journal : Journal) : Type 0 where
+  pub run : IsRun world moves journal
+  pub types : IsOfTypes journal

@@ -11,7 +11,7 @@ ghost use Rattle.dw_input.specs.Files.{bytes_under};
 ghost use Rattle.dw_input.specs.Scripts.{givens_of, world_of, world_under};
 ghost use Rattle.dw_input.specs.Statuses.{MayAnswer, ComesBefore, ComesOfBytes};
 ghost use Rattle.dw_top.specs.Due.{due, due_of_names, due_of_bytes, MayRejectMoves};
-ghost use Rattle.dw_top.specs.Run.{IsRun, world_in, moves_of, moves_read, moves_in};
+ghost use Rattle.dw_top.specs.Run.{IsPrintedRun, world_in, moves_of, moves_read, moves_in};
 
 use crate::run::run_scripts;
 use dw_input::{MAX_SCRIPT, names, read_file, read_files, read_scripts};
@@ -50,10 +50,10 @@ pub fn top<F: Files, S: Sink>(alloc: Global, words: &[Text], files: &mut F, out:
     ensures untouched { result ≢ Status.Ok → result ≢ Status.WriteFault → S.has out.new ≡ S.has out.old }
     ensures due { (h : Held) → F.held files.old ≡ Some h → MayAnswer (due words.now h) result }
     ensures headline { (h : Held) → F.held files.old ≡ Some h → result ≡ Status.Ok →
-        (journal : Events) × IsRun (world_in words.now h) (moves_in words.now h) journal
+        (journal : Events) × IsPrintedRun (world_in words.now h) (moves_in words.now h) journal
         × (S.has out.new ≡ appended (S.has out.old) (report (world_in words.now h) journal)) }
     ensures prefix { (h : Held) → F.held files.old ≡ Some h → result ≡ Status.WriteFault →
-        (journal : Events) × IsRun (world_in words.now h) (moves_in words.now h) journal
+        (journal : Events) × IsPrintedRun (world_in words.now h) (moves_in words.now h) journal
         × ((n : ℕ) × (S.has out.new ≡ appended (S.has out.old) (take n (report (world_in words.now h) journal)))) }
     ensures complete { (h : Held) → F.held files.old ≡ Some h → due words.now h ≡ Status.Ok →
         ¬ (Rose (F.faults files.old) (F.faults files.new)) → ¬ (Rose (S.faults out.old) (S.faults out.new)) →
@@ -87,7 +87,7 @@ fn prepare<F: Files>(
     ensures refused { (h : Held) → F.held files.old ≡ Some h → IfErr result (MayAnswer (due_of_names schedule.now scripts.now h)) }
     ensures due { (h : Held) → F.held files.old ≡ Some h → IfOk result (λ bytes. due_of_names schedule.now scripts.now h ≡ Status.Ok) }
     ensures run { (h : Held) → F.held files.old ≡ Some h → IfOk result (λ bytes.
-        (journal : Events) × IsRun (world_under scripts.now h) (moves_read (length scripts.now) (bytes_under h schedule.now)) journal
+        (journal : Events) × IsPrintedRun (world_under scripts.now h) (moves_read (length scripts.now) (bytes_under h schedule.now)) journal
         × (bytes ≡ report (world_under scripts.now h) journal)) }
 {
     let moves = read_file(alloc, files, schedule, MAX_SCRIPT, 0)?;
@@ -108,7 +108,7 @@ fn report_of(
     ensures refused { IfErr result (MayAnswer (due_of_bytes names.now schedule.now scripts.now)) }
     ensures due { IfOk result (λ bytes. due_of_bytes names.now schedule.now scripts.now ≡ Status.Ok) }
     ensures run { IfOk result (λ bytes.
-        (journal : Events) × IsRun (world_of (map givens_of scripts.now)) (moves_read (length scripts.now) schedule.now) journal
+        (journal : Events) × IsPrintedRun (world_of (map givens_of scripts.now)) (moves_read (length scripts.now) schedule.now) journal
         × (bytes ≡ report (world_of (map givens_of scripts.now)) journal)) }
 {
     let statements = read_scripts(alloc, names, scripts)?;
@@ -143,7 +143,7 @@ fn report_of_run(alloc: Global, world: World, moves: &[Move]) -> Result<List<u8>
     requires short { AreShort world.scripts }
     requires no_vacuum { HaveNoVacuum world }
     requires moves { All (IsMove (session_count world)) moves.now }
-    ensures { IfOk result (λ bytes. (journal : Events) × IsRun world (moves_of moves.now) journal
+    ensures { IfOk result (λ bytes. (journal : Events) × IsPrintedRun world (moves_of moves.now) journal
         × (bytes ≡ report world journal)) }
 {
     let ran = run_scripts(alloc, world, moves)?;
