@@ -1,24 +1,23 @@
--- Which words name a right report: one as a run prints it, beside its scripts.
+-- Which words name a right report, beside its scripts.
 use Rattle.std.specs.Prelude.{◌≡◌, ℕ, List, length, map, zip, Some, None}
 use Rattle.std.specs.Prelude.{Ok as Had}
 use Rattle.dw_io.specs.Outside.{Held}
 use Rattle.dw_journal.specs.declared.Journal.{Journal}
 use Rattle.dw_journal.specs.declared.World.{World}
-use Rattle.dw_journal.specs.Shapes.{standard_shape}
-use Rattle.dw_journal.specs.Worlds.{session_count}
 use Rattle.dw_journal.specs.Follows.{Follows}
 use Rattle.dw_journal.specs.Legal.{IsLegal}
 use Rattle.dw_print.specs.Report.{report}
 use Rattle.dw_print.specs.Typed.{IsOfTypes}
+use Rattle.dw_read_report.specs.Readable.{IsWithinLimits}
 use Rattle.dw_input.specs.Words.{names_of}
 use Rattle.dw_input.specs.Files.{file_of, files_of}
 use Rattle.dw_input.specs.Scripts.{bad_script, givens_of, world_of}
 use Rattle.dw_check.specs.Answers.{journal_limit}
 
--- a journal as a run leaves it, of whatever schedule: it is of the standard shape, with a session for each script, its
--- numbers and texts are of the types of their fields, it is legal, and it follows from the scripts
+-- a journal that a report can tell and that is right: its shape is within the limits, its numbers and texts are of the
+-- types of their fields, it is legal, and it follows from the scripts
 pub record IsRightJournal (world : World) (journal : Journal) : Type 0 where
-  pub shape : journal.shape ≡ standard_shape (session_count world)
+  pub limits : IsWithinLimits journal.shape
   pub types : IsOfTypes journal
   pub legal : IsLegal world journal
   pub follows : Follows world journal

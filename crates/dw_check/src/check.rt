@@ -48,7 +48,8 @@ const MAX_JOURNAL: usize = 67_108_864;
 /// where the count of faults of `files` or of `out` rose in this call. After a `WriteFault` the sink has a part of the
 /// answer from the front; after any other status but `Ok` it has what it had.
 ///
-/// Where the words name the report of a run and its scripts, and no fault came, the status is `Ok` or `Memory`.
+/// Where the words name the report of a right journal and its scripts, as those of each run, and no fault came, the status
+/// is `Ok` or `Memory`.
 pub fn top_check<F: Files, S: Sink>(
     alloc: Global,
     words: &[Text],
