@@ -1,15 +1,15 @@
 mod Steps
-mod MarkLemmas
-mod LevelLemmas
+pub mod MarkLemmas
+pub mod LevelLemmas
 mod Sound
 mod SoundLevels
-mod Places
+pub mod Places
 mod AtomLemmas
 mod Items
 mod GoesOn
 mod Comes
 mod Complete
-mod Answered
+pub mod Answered
 mod Along
 mod Ends
 mod FromTheEnd

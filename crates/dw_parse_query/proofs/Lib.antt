@@ -1,0 +1,4 @@
+mod ListLemmas
+mod StopLemmas
+mod Complete
+mod Sound
