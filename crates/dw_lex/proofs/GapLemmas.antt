@@ -7,13 +7,13 @@ use Rattle.std.proofs.lemmas.Bool.Decides.{nat_tests}
 use Rattle.std.proofs.lemmas.Str.{IsUtf8-append, IsUtf8-from_ascii}
 use Rattle.std.proofs.lemmas.Str.Ascii.{IsAscii-nil, IsAscii-cons}
 use Rattle.std.proofs.lemmas.List.{append-nil, take_at, drop_at, take-append-drop}
-use Rattle.dw_lex.specs.Characters.{is_blank, begins_name, quote, dash, line_feed, slash, star, begins_comment}
+use Rattle.dw_lex.specs.Characters.{is_blank, begins_name, quote, double_quote, dash, line_feed, slash, star, begins_comment}
 use Rattle.dw_lex.specs.Signs.{sign_of_one, sign_of_two}
 use Rattle.dw_lex.specs.Gaps.{line_at, blocks_end, block_long, comment_at, gap_at, EndsBlocks, all_ended, ends, opens, other, EndsLine, IsComment, line, block, IsGap, nothing, blank, comment}
-use Rattle.dw_lex.specs.Spelling.{EndsAt, IsDigits, IsNumber, whole, decimal, IsWords, text, IsSign, IsToken}
+use Rattle.dw_lex.specs.Spelling.{EndsAt, IsQuoted, quoted, IsDigits, IsNumber, whole, decimal, IsWords, text, IsSign, IsToken}
 use Rattle.dw_lex.specs.declared.signs.Sign.{Sign as Mark}
 use Rattle.dw_lex.specs.declared.token.Form.{Form}
-use Rattle.dw_lex.specs.declared.token.Form.TheVariants.{Name, Number, Words, Sign}
+use Rattle.dw_lex.specs.declared.token.Form.TheVariants.{Name, Quoted, Number, Words, Sign}
 use Rattle.dw_lex.proofs.ReadLemmas.{prefix_takes, prefix_ends}
 use Rattle.dw_lex.proofs.SpellingLemmas.{prefix_len-whole, fails}
 use Rattle.dw_lex.proofs.Utf8Lemmas.{IsUtf8-front, IsUtf8-rest}
@@ -199,6 +199,9 @@ number_no_gap word rest (decimal digits fraction rest₂ h f long e) = ap gap_at
 words_no_gap : (word rest : List ℕ) → IsWords word rest → gap_at (word ++ rest) ≡ 0
 words_no_gap word rest (text inside rest₂ i e) = no-gap quote ((inside ++ quote ∷ []) ++ rest) refl refl refl
 
+quoted_no_gap : (word rest : List ℕ) → IsQuoted word → gap_at (word ++ rest) ≡ 0
+quoted_no_gap word rest (quoted name h) = no-gap double_quote ((name ++ double_quote ∷ []) ++ rest) refl refl refl
+
 blank_no_sign : (b : ℕ) → is_blank b ≡ true → sign_of_one b ≡ None
 blank_no_sign b h = grind (arith, nat_tests)
 
@@ -230,6 +233,7 @@ sign_no_gap sign (b ∷ c ∷ d ∷ bs) rest h = absurd h
 pub token_no_gap : (form : Form) (word rest : List ℕ) → IsToken form word rest → gap_at (word ++ rest) ≡ 0
 token_no_gap Name [] rest h = absurd h
 token_no_gap Name (b ∷ bs) rest h = let plain = name_plain b h.0 in no-gap b (bs ++ rest) plain.0 plain.1 plain.2
+token_no_gap Quoted word rest h = quoted_no_gap word rest h
 token_no_gap Number word rest h = number_no_gap word rest h
 token_no_gap Words word rest h = words_no_gap word rest h
 token_no_gap (Sign sign) word rest h = sign_no_gap sign word rest h

@@ -1,5 +1,5 @@
 -- What is read as a token is spelled as it.
-use Rattle.std.proofs.Common.{◌≡◌, ℕ, zero, suc, ◌+◌, ◌<◌, ◌≤◌, Bool, true, false, cond, eqb, leb, Option, Some, None, List, [], ◌∷◌, ◌++◌, length, take, drop, take-add, ◌⊎◌, inl, inr, refl, sym, ◌∙◌, ap, subst, append_assoc, arith}
+use Rattle.std.proofs.Common.{◌≡◌, ℕ, zero, suc, ◌+◌, ◌<◌, ◌≤◌, Bool, true, false, cond, ◌&&◌, eqb, leb, Option, Some, None, List, [], ◌∷◌, ◌++◌, length, take, drop, take-add, ◌⊎◌, inl, inr, refl, sym, ◌∙◌, ap, subst, append_assoc, arith}
 use Rattle.std.specs.Option.{option_map}
 use Rattle.std.specs.List.{list_all, prefix_len}
 use Rattle.std.specs.Char.{is_ascii_digit}
@@ -8,13 +8,13 @@ use Rattle.std.proofs.lemmas.Bool.{and_parts, leb-true, eqb-true, eqb-false}
 use Rattle.std.proofs.lemmas.Str.{IsUtf8-from_is_utf8}
 use Rattle.std.proofs.lemmas.List.{length-take, length-append, drop-drop, take-append-drop, take_at, drop_at}
 use Rattle.std.proofs.lemmas.List.Sums.{prefix_len-le-length}
-use Rattle.dw_lex.specs.Characters.{begins_name, is_in_name, quote, point, begins_comment}
+use Rattle.dw_lex.specs.Characters.{begins_name, is_in_name, quote, double_quote, is_double_quote, point, begins_comment}
 use Rattle.dw_lex.specs.Signs.{sign_of_one, sign_of_two}
-use Rattle.dw_lex.specs.Forms.{SizedForm, name_at, digits_at, fraction_at, number_at, text_end, words_at, longer_sign, sign_at, form_at, in_utf8, token_at}
-use Rattle.dw_lex.specs.Spelling.{EndsAt, IsDigits, IsNumber, whole, decimal, IsInside, nothing, other, quotes, text, IsToken}
+use Rattle.dw_lex.specs.Forms.{SizedForm, name_at, begins_with, quoted_at, digits_at, fraction_at, number_at, text_end, words_at, longer_sign, sign_at, form_at, in_utf8, token_at}
+use Rattle.dw_lex.specs.Spelling.{EndsAt, IsName, quoted, IsDigits, IsNumber, whole, decimal, IsInside, nothing, other, quotes, text, IsToken}
 use Rattle.dw_lex.specs.declared.signs.Sign.{Sign as Mark}
 use Rattle.dw_lex.specs.declared.token.Form.{Form}
-use Rattle.dw_lex.specs.declared.token.Form.TheVariants.{Name, Number, Words, Sign}
+use Rattle.dw_lex.specs.declared.token.Form.TheVariants.{Name, Quoted, Number, Words, Sign}
 
 chosen : {A : Type 0} (t : Bool) (x y z : A) → cond t x y ≡ z → ((t ≡ true) × (x ≡ z)) ⊎ ((t ≡ false) × (y ≡ z))
 chosen true x y z e = inl (refl, e)
@@ -53,6 +53,44 @@ name_spelled b bs found begins e =
     let cut : length (take m bs) < 127 = omega (arith, length-take m bs) in
     let own : Spelled (b ∷ bs) (Name, suc m) = (begins, prefix_takes is_in_name bs, cut, prefix_ends is_in_name bs) in
     subst (Spelled (b ∷ bs)) (ap (λ (n : ℕ). (Name, n)) (sym long) ∙ g.1) own
+
+name_alone : (word rest : List ℕ) → IsName word rest → IsName word []
+name_alone [] rest h = absurd h
+name_alone (b ∷ bs) rest h = (h.0, h.1, h.2, tt)
+
+quote_first : (tail : List ℕ) → begins_with is_double_quote tail ≡ true → (more : List ℕ) × (tail ≡ double_quote ∷ more)
+quote_first [] e = cc
+quote_first (b ∷ bs) e = (bs, ap (λ (x : ℕ). x ∷ bs) (eqb-true b double_quote e))
+
+begins_first : (bs : List ℕ) → begins_with begins_name bs ≡ true → (b : ℕ) × (more : List ℕ) × (bs ≡ b ∷ more) × (begins_name b ≡ true)
+begins_first [] e = cc
+begins_first (b ∷ bs) e = (b, bs, refl, e)
+
+-- the name between the quotes
+inside_spelled : (bs : List ℕ) (m : ℕ) → prefix_len is_in_name bs ≡ m → begins_with begins_name bs ≡ true → leb m 127 ≡ true → IsName (take m bs) []
+inside_spelled bs m long begins small =
+    let f = begins_first bs begins in
+    let first : List ℕ = f.0 ∷ f.1 in
+    let own : prefix_len is_in_name first ≡ m = ap (prefix_len is_in_name) (sym f.2) ∙ long in
+    let found : name_at first ≡ Some (Name, m) = rw (own, small) refl in
+    let there = name_spelled f.0 f.1 (Name, m) f.3 found in
+    subst (λ (xs : List ℕ). IsName (take m xs) []) (sym f.2) (name_alone (take m first) (drop m first) there)
+
+quoted_long : (bs : List ℕ) (m : ℕ) → IsName (take m bs) [] → begins_with is_double_quote (drop m bs) ≡ true → Spelled (double_quote ∷ bs) (Quoted, m + 2)
+quoted_long bs m name closed =
+    let q = quote_first (drop m bs) closed in
+    let split : m + 2 ≡ suc (m + 1) = omega arith in
+    let last : take 1 (drop m bs) ≡ double_quote ∷ [] = ap (take 1) q.1 in
+    let front : take (m + 1) bs ≡ take m bs ++ double_quote ∷ [] = take-add m 1 bs ∙ ap (λ (tail : List ℕ). take m bs ++ tail) last in
+    rw (split, front) (quoted (take m bs) name)
+
+quoted_spelled : (bs : List ℕ) (found : SizedForm) → quoted_at bs ≡ Some found → Spelled (double_quote ∷ bs) found
+quoted_spelled bs found e =
+    let m : ℕ = prefix_len is_in_name bs in
+    let g = guarded (begins_with begins_name bs && leb m 127 && begins_with is_double_quote (drop m bs)) (Quoted, m + 2) found e in
+    let both = and_parts (begins_with begins_name bs && leb m 127) (begins_with is_double_quote (drop m bs)) g.0 in
+    let first = and_parts (begins_with begins_name bs) (leb m 127) both.0 in
+    subst (Spelled (double_quote ∷ bs)) g.1 (quoted_long bs m (inside_spelled bs m refl first.0 first.1) both.1)
 
 IsDigits-from : (digits : List ℕ) → 0 < length digits → list_all is_ascii_digit digits ≡ true → IsDigits digits
 IsDigits-from [] some all = absurd (omega arith)
@@ -189,21 +227,29 @@ sign_spelled b (c ∷ bs) found e =
     let plain = unless (begins_comment b c) (longer_sign (sign_of_two b c) (sign_of_one b)) found e in
     two_spelled b c bs found (sign_of_two b c) refl plain.0 plain.1
 
+-- the token where neither a name nor a number nor a text begins
+abbrev quoted_or_sign : ℕ → List ℕ → Option SizedForm
+quoted_or_sign b bs = cond (eqb b double_quote) (quoted_at bs) (sign_at (b ∷ bs))
+
 form_spelled : (bytes : List ℕ) (found : SizedForm) → form_at bytes ≡ Some found → Spelled bytes found
 form_spelled [] found e = cc
 form_spelled (b ∷ bs) found e = by_first (chosen (begins_name b) (name_at (b ∷ bs)) _ (Some found) e)
   where
-    by_quote : ((eqb b quote ≡ true) × (words_at bs ≡ Some found)) ⊎ ((eqb b quote ≡ false) × (sign_at (b ∷ bs) ≡ Some found)) → Spelled (b ∷ bs) found
+    by_double : ((eqb b double_quote ≡ true) × (quoted_at bs ≡ Some found)) ⊎ ((eqb b double_quote ≡ false) × (sign_at (b ∷ bs) ≡ Some found)) → Spelled (b ∷ bs) found
+    by_double (inl h) = let same = eqb-true b double_quote h.0 in rw same (quoted_spelled bs found h.1)
+    by_double (inr h) = sign_spelled b bs found h.1
+
+    by_quote : ((eqb b quote ≡ true) × (words_at bs ≡ Some found)) ⊎ ((eqb b quote ≡ false) × (quoted_or_sign b bs ≡ Some found)) → Spelled (b ∷ bs) found
     by_quote (inl h) = let same = eqb-true b quote h.0 in rw same (words_long bs found (text_end bs false 1) refl h.1)
-    by_quote (inr h) = sign_spelled b bs found h.1
+    by_quote (inr h) = by_double (chosen (eqb b double_quote) (quoted_at bs) (sign_at (b ∷ bs)) (Some found) h.1)
 
-    by_digit : ((is_ascii_digit b ≡ true) × (number_at (b ∷ bs) ≡ Some found)) ⊎ ((is_ascii_digit b ≡ false) × (cond (eqb b quote) (words_at bs) (sign_at (b ∷ bs)) ≡ Some found)) → Spelled (b ∷ bs) found
+    by_digit : ((is_ascii_digit b ≡ true) × (number_at (b ∷ bs) ≡ Some found)) ⊎ ((is_ascii_digit b ≡ false) × (cond (eqb b quote) (words_at bs) (quoted_or_sign b bs) ≡ Some found)) → Spelled (b ∷ bs) found
     by_digit (inl h) = number_spelled b bs found h.0 h.1
-    by_digit (inr h) = by_quote (chosen (eqb b quote) (words_at bs) (sign_at (b ∷ bs)) (Some found) h.1)
+    by_digit (inr h) = by_quote (chosen (eqb b quote) (words_at bs) (quoted_or_sign b bs) (Some found) h.1)
 
-    by_first : ((begins_name b ≡ true) × (name_at (b ∷ bs) ≡ Some found)) ⊎ ((begins_name b ≡ false) × (cond (is_ascii_digit b) (number_at (b ∷ bs)) (cond (eqb b quote) (words_at bs) (sign_at (b ∷ bs))) ≡ Some found)) → Spelled (b ∷ bs) found
+    by_first : ((begins_name b ≡ true) × (name_at (b ∷ bs) ≡ Some found)) ⊎ ((begins_name b ≡ false) × (cond (is_ascii_digit b) (number_at (b ∷ bs)) (cond (eqb b quote) (words_at bs) (quoted_or_sign b bs)) ≡ Some found)) → Spelled (b ∷ bs) found
     by_first (inl h) = name_spelled b bs found h.0 h.1
-    by_first (inr h) = by_digit (chosen (is_ascii_digit b) (number_at (b ∷ bs)) (cond (eqb b quote) (words_at bs) (sign_at (b ∷ bs))) (Some found) h.1)
+    by_first (inr h) = by_digit (chosen (is_ascii_digit b) (number_at (b ∷ bs)) (cond (eqb b quote) (words_at bs) (quoted_or_sign b bs)) (Some found) h.1)
 
 abbrev IsFront : List ℕ → Form × List ℕ → Type 0
 IsFront bytes token = (rest : List ℕ) × (bytes ≡ token.1 ++ rest) × IsToken token.0 token.1 rest × IsUtf8 token.1

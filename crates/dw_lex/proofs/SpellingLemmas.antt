@@ -1,18 +1,18 @@
 -- What is spelled as a token is read as it.
-use Rattle.std.proofs.Common.{◌≡◌, ℕ, suc, ◌+◌, ◌<◌, Bool, true, false, eqb, leb, Option, Some, None, List, [], ◌∷◌, ◌++◌, length, take, drop, refl, sym, ◌∙◌, ap, subst, append_assoc, arith}
+use Rattle.std.proofs.Common.{◌≡◌, ℕ, suc, ◌+◌, ◌<◌, ◌≤◌, Bool, true, false, eqb, leb, Option, Some, None, List, [], ◌∷◌, ◌++◌, length, take, drop, refl, sym, ◌∙◌, ap, subst, append_assoc, arith}
 use Rattle.std.specs.List.{list_all, prefix_len}
 use Rattle.std.specs.Char.{is_ascii_digit}
 use Rattle.std.specs.Str.{IsUtf8}
 use Rattle.std.proofs.lemmas.Bool.{and_parts, le-leb, ne_eqb, eqb-true}
 use Rattle.std.proofs.lemmas.Bool.Decides.{nat_tests}
 use Rattle.std.proofs.lemmas.List.{take_at, drop_at, length-append}
-use Rattle.dw_lex.specs.Characters.{begins_name, is_in_name, quote, point, begins_comment}
+use Rattle.dw_lex.specs.Characters.{begins_name, is_in_name, quote, double_quote, is_double_quote, point, begins_comment}
 use Rattle.dw_lex.specs.Signs.{sign_of_one, sign_of_two}
-use Rattle.dw_lex.specs.Forms.{digits_at, number_at, text_end, sign_at, form_at, token_at}
-use Rattle.dw_lex.specs.Spelling.{EndsAt, IsName, IsDigits, IsNumber, whole, decimal, IsInside, nothing, other, quotes, IsWords, text, IsSign, IsToken}
+use Rattle.dw_lex.specs.Forms.{begins_with, quoted_at, digits_at, number_at, text_end, sign_at, form_at, token_at}
+use Rattle.dw_lex.specs.Spelling.{EndsAt, IsName, IsQuoted, quoted, IsDigits, IsNumber, whole, decimal, IsInside, nothing, other, quotes, IsWords, text, IsSign, IsToken}
 use Rattle.dw_lex.specs.declared.signs.Sign.{Sign as Mark}
 use Rattle.dw_lex.specs.declared.token.Form.{Form}
-use Rattle.dw_lex.specs.declared.token.Form.TheVariants.{Name, Number, Words, Sign}
+use Rattle.dw_lex.specs.declared.token.Form.TheVariants.{Name, Quoted, Number, Words, Sign}
 use Rattle.dw_lex.proofs.FormLemmas.{token_at-some}
 
 prefix_len-end : (test : ℕ → Bool) (rest : List ℕ) → EndsAt test rest → prefix_len test rest ≡ 0
@@ -34,6 +34,26 @@ name_found b bs rest h =
     let small : leb (1 + length bs) 127 ≡ true = le-leb (1 + length bs) 127 (omega arith) in
     let long : 1 + length bs ≡ suc (length bs) = omega arith in
     rw (begins, more, small) (ap (λ n. Some (Name, n)) long)
+
+quoted_from : (name rest : List ℕ) → begins_with begins_name (name ++ double_quote ∷ rest) ≡ true → prefix_len is_in_name (name ++ double_quote ∷ rest) ≡ length name
+    → length name ≤ 127 → quoted_at (name ++ double_quote ∷ rest) ≡ Some (Quoted, length name + 2)
+quoted_from name rest begins long le =
+    let small : leb (length name) 127 ≡ true = le-leb (length name) 127 le in
+    let tail : drop (length name) (name ++ double_quote ∷ rest) ≡ double_quote ∷ rest = drop_at name (double_quote ∷ rest) (length name) refl in
+    rw (begins, long, small, tail) refl
+
+quoted_inside : (name rest : List ℕ) → IsName name [] → quoted_at (name ++ double_quote ∷ rest) ≡ Some (Quoted, length name + 2)
+quoted_inside [] rest h = absurd h
+quoted_inside (b ∷ bs) rest h =
+    let begins = h.0 in
+    let all : list_all is_in_name (b ∷ bs) ≡ true = rw begins h.1 in
+    quoted_from (b ∷ bs) rest begins (prefix_len-whole is_in_name (b ∷ bs) (double_quote ∷ rest) all refl) (omega (arith, h.2))
+
+quoted_found : (word rest : List ℕ) → IsQuoted word → form_at (word ++ rest) ≡ Some (Quoted, length word)
+quoted_found word rest (quoted name h) =
+    let joined : (double_quote ∷ name ++ double_quote ∷ []) ++ rest ≡ double_quote ∷ (name ++ double_quote ∷ rest) = ap (λ (xs : List ℕ). double_quote ∷ xs) (append_assoc name (double_quote ∷ []) rest) in
+    let total : length name + 2 ≡ length (double_quote ∷ name ++ double_quote ∷ []) = omega (arith, length-append name (double_quote ∷ [])) in
+    ap form_at joined ∙ quoted_inside name rest h ∙ ap (λ n. Some (Quoted, n)) total
 
 digit_begins_none : (b : ℕ) → is_ascii_digit b ≡ true → begins_name b ≡ false
 digit_begins_none b h = grind (arith, nat_tests)
@@ -107,6 +127,12 @@ quote_no_sign b h = let e = eqb-true b quote h in rw e refl
 quote_no_longer : (b c : ℕ) → eqb b quote ≡ true → sign_of_two b c ≡ None
 quote_no_longer b c h = let e = eqb-true b quote h in rw e refl
 
+double_no_sign : (b : ℕ) → eqb b double_quote ≡ true → sign_of_one b ≡ None
+double_no_sign b h = let e = eqb-true b double_quote h in rw e refl
+
+double_no_longer : (b c : ℕ) → eqb b double_quote ≡ true → sign_of_two b c ≡ None
+double_no_longer b c h = let e = eqb-true b double_quote h in rw e refl
+
 comment_no_longer : (b c : ℕ) → begins_comment b c ≡ true → sign_of_two b c ≡ None
 comment_no_longer b c h = grind (arith, nat_tests)
 
@@ -114,22 +140,28 @@ pub fails : {A : Type 0} (t : Bool) (found : Option A) (a : A) → (t ≡ true �
 fails true found a none some = let e = none refl in cc
 fails false found a none some = refl
 
-one_other : (b : ℕ) (sign : Mark) → sign_of_one b ≡ Some sign → (begins_name b ≡ false) × (is_ascii_digit b ≡ false) × (eqb b quote ≡ false)
+-- the byte begins no name, number, text or quoted name
+abbrev BeginsNoOther : ℕ → Type 0
+BeginsNoOther b = (begins_name b ≡ false) × (is_ascii_digit b ≡ false) × (eqb b quote ≡ false) × (eqb b double_quote ≡ false)
+
+one_other : (b : ℕ) (sign : Mark) → sign_of_one b ≡ Some sign → BeginsNoOther b
 one_other b sign h = (
   fails (begins_name b) (sign_of_one b) sign (name_no_sign b) h,
   fails (is_ascii_digit b) (sign_of_one b) sign (digit_no_sign b) h,
   fails (eqb b quote) (sign_of_one b) sign (quote_no_sign b) h,
+  fails (eqb b double_quote) (sign_of_one b) sign (double_no_sign b) h,
 )
 
-two_other : (b c : ℕ) (sign : Mark) → sign_of_two b c ≡ Some sign → (begins_name b ≡ false) × (is_ascii_digit b ≡ false) × (eqb b quote ≡ false)
+two_other : (b c : ℕ) (sign : Mark) → sign_of_two b c ≡ Some sign → BeginsNoOther b
 two_other b c sign h = (
   fails (begins_name b) (sign_of_two b c) sign (name_no_longer b c) h,
   fails (is_ascii_digit b) (sign_of_two b c) sign (digit_no_longer b c) h,
   fails (eqb b quote) (sign_of_two b c) sign (quote_no_longer b c) h,
+  fails (eqb b double_quote) (sign_of_two b c) sign (double_no_longer b c) h,
 )
 
-sign_first : (b : ℕ) (bs : List ℕ) → (begins_name b ≡ false) × (is_ascii_digit b ≡ false) × (eqb b quote ≡ false) → form_at (b ∷ bs) ≡ sign_at (b ∷ bs)
-sign_first b bs h = let x = h.0 in let y = h.1 in let z = h.2 in rw (x, y, z) refl
+sign_first : (b : ℕ) (bs : List ℕ) → BeginsNoOther b → form_at (b ∷ bs) ≡ sign_at (b ∷ bs)
+sign_first b bs h = let x = h.0 in let y = h.1 in let z = h.2 in let w = h.3 in rw (x, y, z, w) refl
 
 sign_found : (sign : Mark) (word rest : List ℕ) → IsSign sign word rest → form_at (word ++ rest) ≡ Some (Sign sign, length word)
 sign_found sign [] rest h = absurd h
@@ -143,6 +175,7 @@ sign_found sign (b ∷ c ∷ d ∷ bs) rest h = absurd h
 form_found : (form : Form) (word rest : List ℕ) → IsToken form word rest → form_at (word ++ rest) ≡ Some (form, length word)
 form_found Name [] rest h = absurd h
 form_found Name (b ∷ bs) rest h = name_found b bs rest h
+form_found Quoted word rest h = quoted_found word rest h
 form_found Number word rest h = number_found word rest h
 form_found Words word rest h = words_found word rest h
 form_found (Sign sign) word rest h = sign_found sign word rest h

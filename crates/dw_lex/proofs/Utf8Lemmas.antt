@@ -9,12 +9,12 @@ use Rattle.std.proofs.lemmas.Str.{IsUtf8-take, IsUtf8-drop, IsUtf8-from_ascii, I
 use Rattle.std.proofs.lemmas.Str.Ascii.{IsAscii-nil, IsAscii-cons}
 use Rattle.std.proofs.lemmas.List.{take_at, drop_at, length-append}
 use Rattle.std.proofs.Math.Seq.{get_or-append_seam}
-use Rattle.dw_lex.specs.Characters.{is_blank, begins_name, is_in_name, quote, point}
+use Rattle.dw_lex.specs.Characters.{is_blank, begins_name, is_in_name, quote, double_quote, point}
 use Rattle.dw_lex.specs.Signs.{sign_of_one, sign_of_two}
-use Rattle.dw_lex.specs.Spelling.{IsDigits, IsNumber, whole, decimal, IsWords, text, IsSign, IsToken}
+use Rattle.dw_lex.specs.Spelling.{IsName, IsQuoted, quoted, IsDigits, IsNumber, whole, decimal, IsWords, text, IsSign, IsToken}
 use Rattle.dw_lex.specs.declared.signs.Sign.{Sign as Mark}
 use Rattle.dw_lex.specs.declared.token.Form.{Form}
-use Rattle.dw_lex.specs.declared.token.Form.TheVariants.{Name, Number, Words, Sign}
+use Rattle.dw_lex.specs.declared.token.Form.TheVariants.{Name, Quoted, Number, Words, Sign}
 
 -- a front that ends in an ASCII character
 pub IsUtf8-front : (xs rest : List ℕ) (b : ℕ) → b < 128 → IsUtf8 (xs ++ b ∷ rest) → IsUtf8 (xs ++ b ∷ [])
@@ -66,6 +66,14 @@ digits_ascii (b ∷ bs) h = IsAscii-cons b bs (digit_small b h.0) (ascii_all is_
 append_ascii : (xs ys : List ℕ) → IsAscii xs → IsAscii ys → IsAscii (xs ++ ys)
 append_ascii xs ys h k = IsAscii-append xs ys h k
 
+name_ascii : (word rest : List ℕ) → IsName word rest → IsAscii word
+name_ascii [] rest h = absurd h
+name_ascii (b ∷ bs) rest h = IsAscii-cons b bs (begins_small b h.0) (ascii_all is_in_name name_small bs h.1)
+
+quoted_ascii : (word : List ℕ) → IsQuoted word → IsAscii word
+quoted_ascii word (quoted name h) =
+    IsAscii-cons double_quote (name ++ double_quote ∷ []) (omega arith) (append_ascii name (double_quote ∷ []) (name_ascii name [] h) (IsAscii-cons double_quote [] (omega arith) IsAscii-nil))
+
 number_ascii : (word rest : List ℕ) → IsNumber word rest → IsAscii word
 number_ascii word rest (whole digits rest₂ h long e none) = digits_ascii digits h
 number_ascii word rest (decimal digits fraction rest₂ h f long e) =
@@ -84,8 +92,8 @@ words_utf8 word rest (text inside rest₂ i e) u =
     IsUtf8-front (quote ∷ inside) rest quote (omega arith) (subst IsUtf8 joined u)
 
 word_utf8 : (form : Form) (word rest : List ℕ) → IsToken form word rest → IsUtf8 (word ++ rest) → IsUtf8 word
-word_utf8 Name [] rest h u = absurd h
-word_utf8 Name (b ∷ bs) rest h u = IsUtf8-from_ascii (b ∷ bs) (IsAscii-cons b bs (begins_small b h.0) (ascii_all is_in_name name_small bs h.1))
+word_utf8 Name word rest h u = IsUtf8-from_ascii word (name_ascii word rest h)
+word_utf8 Quoted word rest h u = IsUtf8-from_ascii word (quoted_ascii word h)
 word_utf8 Number word rest h u = IsUtf8-from_ascii word (number_ascii word rest h)
 word_utf8 Words word rest h u = words_utf8 word rest h u
 word_utf8 (Sign sign) word rest h u = IsUtf8-from_ascii word (sign_ascii sign word rest h)

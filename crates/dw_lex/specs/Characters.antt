@@ -18,6 +18,13 @@ is_in_name b = begins_name b || is_ascii_digit b || (b == 36)
 abbrev pub quote : ℕ
 quote = 39
 
+-- the double quote
+abbrev pub double_quote : ℕ
+double_quote = 34
+
+abbrev pub is_double_quote : ℕ → Bool
+is_double_quote b = b == double_quote
+
 -- the point of a number
 abbrev pub point : ℕ
 point = 46

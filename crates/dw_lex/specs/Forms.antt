@@ -4,11 +4,11 @@ use Rattle.std.specs.Prelude.{ℕ, ◌+◌, Bool, false, ◌==◌, ◌&&◌, not
 use Rattle.std.specs.List.{prefix_len}
 use Rattle.std.specs.Char.{is_ascii_digit}
 use Rattle.std.specs.Str.{is_utf8}
-use Rattle.dw_lex.specs.Characters.{begins_name, is_in_name, quote, point, begins_comment}
+use Rattle.dw_lex.specs.Characters.{begins_name, is_in_name, quote, is_double_quote, point, begins_comment}
 use Rattle.dw_lex.specs.Signs.{sign_of_one, sign_of_two}
 use Rattle.dw_lex.specs.declared.signs.Sign.{Sign as Mark}
 use Rattle.dw_lex.specs.declared.token.Form.{Form}
-use Rattle.dw_lex.specs.declared.token.Form.TheVariants.{Name, Number, Words, Sign}
+use Rattle.dw_lex.specs.declared.token.Form.TheVariants.{Name, Quoted, Number, Words, Sign}
 
 -- a token's form and how many bytes it takes
 abbrev pub SizedForm : Type 0
@@ -17,6 +17,18 @@ SizedForm = Form × ℕ
 -- a name: all the characters of names, at most 127
 abbrev pub name_at : List ℕ → Option SizedForm
 name_at bytes = let long = prefix_len is_in_name bytes in if nat_le long 127 then Some (Name, long) else None
+
+-- whether the first byte passes the test
+abbrev pub begins_with : (ℕ → Bool) → List ℕ → Bool
+begins_with test [] = false
+begins_with test (b ∷ bs) = test b
+
+-- a name in double quotes; this is said of the bytes after its opening quote, which are a name up to the next one
+abbrev pub quoted_at : List ℕ → Option SizedForm
+quoted_at inside =
+    let long = prefix_len is_in_name inside in
+    if begins_with begins_name inside && nat_le long 127 && begins_with is_double_quote (drop long inside)
+    then Some (Quoted, long + 2) else None
 
 -- how many digits are at the front
 abbrev pub digits_at : List ℕ → ℕ
@@ -64,7 +76,8 @@ form_at [] = None
 form_at (b ∷ bs) =
     if begins_name b then name_at (b ∷ bs) else
     if is_ascii_digit b then number_at (b ∷ bs) else
-    if b == quote then words_at bs else sign_at (b ∷ bs)
+    if b == quote then words_at bs else
+    if is_double_quote b then quoted_at bs else sign_at (b ∷ bs)
 
 -- A token's bytes are UTF-8. In a statement that is UTF-8 they always are, by the law `spelled_tokens_are_read`.
 abbrev pub in_utf8 : List ℕ → Option SizedForm → Option (Form × List ℕ)

@@ -3,16 +3,32 @@ use Rattle.std.specs.Prelude.{◌≡◌, ℕ, ◌^◌, Bool, true, false, ◌==�
 use Rattle.std.specs.Char.{to_ascii_lowercase, is_ascii_digit}
 use Rattle.std.specs.List.{list_all, before_first, after_first}
 use Rattle.std.specs.Str.Parse.{digits_value}
-use Rattle.dw_lex.specs.Characters.{quote, point}
+use Rattle.dw_lex.specs.Characters.{quote, is_double_quote, point}
 use Rattle.dw_lex.specs.declared.token.Form.{Form}
-use Rattle.dw_lex.specs.declared.token.Form.TheVariants.{Name, Number, Words, Sign}
+use Rattle.dw_lex.specs.declared.token.Form.TheVariants.{Name, Quoted, Number, Words, Sign}
 use Rattle.dw_lex.specs.declared.token.Token.{Token}
 
 -- a name with its ASCII letters in lower case
 abbrev pub folded : List ℕ → List ℕ
 folded name = map to_ascii_lowercase name
 
--- the token is this word, whatever the case of its letters
+-- what stands between the quotes of a quoted name: between the first double quote and the next one
+abbrev pub between_quotes : List ℕ → List ℕ
+between_quotes text = before_first is_double_quote (after_first is_double_quote text)
+
+-- The name that a token writes, in lower case: a name writes itself, and a quoted name what stands between its quotes.
+-- After the Amazon Redshift guide (names and identifiers), where the letters between the quotes are folded too.
+abbrev pub name_in : Form → List ℕ → Option (List ℕ)
+name_in Name text = Some (folded text)
+name_in Quoted text = Some (folded (between_quotes text))
+name_in Number text = None
+name_in Words text = None
+name_in (Sign sign) text = None
+
+abbrev pub written_name : Token → Option (List ℕ)
+written_name token = name_in token.form token.text
+
+-- the token is this word, whatever the case of its letters; a quoted name is no word
 abbrev pub IsWord : List ℕ → Token → Type 0
 IsWord word token = (token.form ≡ Name) × (folded token.text ≡ folded word)
 
@@ -40,6 +56,7 @@ number_of_digits text =
 abbrev pub number_in : Form → List ℕ → Option ℕ
 number_in Number text = number_of_digits text
 number_in Name text = None
+number_in Quoted text = None
 number_in Words text = None
 number_in (Sign sign) text = None
 
@@ -59,6 +76,7 @@ number_with_places text =
 abbrev pub decimal_in : Form → List ℕ → Option (ℕ × ℕ)
 decimal_in Number text = number_with_places text
 decimal_in Name text = None
+decimal_in Quoted text = None
 decimal_in Words text = None
 decimal_in (Sign sign) text = None
 

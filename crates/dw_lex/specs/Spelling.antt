@@ -3,12 +3,12 @@
 use Rattle.std.specs.Prelude.{◌≡◌, ℕ, ◌+◌, ◌<◌, ◌≤◌, Bool, true, false, ◌==◌, Some, None, List, [], ◌∷◌, ◌++◌, length}
 use Rattle.std.specs.List.{list_all}
 use Rattle.std.specs.Char.{is_ascii_digit}
-use Rattle.dw_lex.specs.Characters.{begins_name, is_in_name, quote, point, begins_comment}
+use Rattle.dw_lex.specs.Characters.{begins_name, is_in_name, quote, double_quote, point, begins_comment}
 use Rattle.dw_lex.specs.Forms.{fraction_at}
 use Rattle.dw_lex.specs.Signs.{sign_of_one, sign_of_two}
 use Rattle.dw_lex.specs.declared.signs.Sign.{Sign as Mark}
 use Rattle.dw_lex.specs.declared.token.Form.{Form}
-use Rattle.dw_lex.specs.declared.token.Form.TheVariants.{Name, Number, Words, Sign}
+use Rattle.dw_lex.specs.declared.token.Form.TheVariants.{Name, Quoted, Number, Words, Sign}
 
 -- the bytes don't begin with one that passes the test
 abbrev pub EndsAt : (ℕ → Bool) → List ℕ → Type 0
@@ -20,6 +20,10 @@ abbrev pub IsName : List ℕ → List ℕ → Type 0
 IsName [] rest = ⊥
 IsName (b ∷ bs) rest =
     (begins_name b ≡ true) × (list_all is_in_name bs ≡ true) × (length bs < 127) × EndsAt is_in_name rest
+
+-- A quoted name: a double quote, a name and a double quote. It ends there, whatever comes after it.
+pub data IsQuoted : List ℕ → Type 0 where
+  quoted : (name : List ℕ) → IsName name [] → IsQuoted (double_quote ∷ name ++ double_quote ∷ [])
 
 -- at least one digit, and no other character
 abbrev pub IsDigits : List ℕ → Type 0
@@ -56,6 +60,7 @@ IsSign sign (b ∷ c ∷ d ∷ bs) rest = ⊥
 -- the bytes are a token of this form where this rest comes after them
 abbrev pub IsToken : Form → List ℕ → List ℕ → Type 0
 IsToken Name word rest = IsName word rest
+IsToken Quoted word rest = IsQuoted word
 IsToken Number word rest = IsNumber word rest
 IsToken Words word rest = IsWords word rest
 IsToken (Sign sign) word rest = IsSign sign word rest

@@ -1,9 +1,9 @@
 //! The token at the front of bytes, by its form.
-ghost use Rattle.std.specs.Prelude.{◌≡◌, ◌≤◌, ◌+◌, ◌<◌, false, length, take, IfSome, option_map};
+ghost use Rattle.std.specs.Prelude.{◌≡◌, ◌≤◌, ◌+◌, ◌<◌, true, false, length, take, IfSome, option_map};
 ghost use Rattle.std.specs.List.{prefix_len};
 ghost use Rattle.std.specs.Option.{option_copied};
-ghost use Rattle.dw_lex.specs.Characters.{begins_name, is_in_name};
-ghost use Rattle.dw_lex.specs.Forms.{name_at, digits_at, fraction_at, number_at, text_end, words_at, sign_at, form_at, token_at};
+ghost use Rattle.dw_lex.specs.Characters.{begins_name, is_in_name, is_double_quote};
+ghost use Rattle.dw_lex.specs.Forms.{name_at, begins_with, quoted_at, digits_at, fraction_at, number_at, text_end, words_at, sign_at, form_at, token_at};
 
 use crate::gaps::begins_comment;
 use crate::signs::{sign_of_one, sign_of_two};
@@ -39,6 +39,37 @@ fn name_at(bytes: &[u8]) -> Option<(Form, usize)>
     let length = name_length(bytes);
     if length <= MAX_NAME {
         Some((Form::Name, length))
+    } else {
+        None
+    }
+}
+
+fn begins_with_name(bytes: &[u8]) -> bool
+    ensures { result ≡ begins_with begins_name bytes.now }
+{
+    match bytes {
+        [first, ..] => begins_name(*first),
+        _ => false,
+    }
+}
+
+fn begins_with_double_quote(bytes: &[u8]) -> bool
+    ensures begins { result ≡ begins_with is_double_quote bytes.now }
+    ensures some { result ≡ true → 0 < length bytes.now }
+{
+    matches!(bytes, [b'"', ..])
+}
+
+// A quoted name, by the bytes after its opening quote.
+fn quoted_at(inside: &[u8]) -> Option<(Form, usize)>
+    ensures found { result ≡ quoted_at inside.now }
+    ensures some { IfSome result (λ found. 0 < found.1) }
+    ensures within { IfSome result (λ found. found.1 ≤ length inside.now + 1) }
+{
+    let length = name_length(inside);
+    let is_closed = begins_with_double_quote(&inside[length..]);
+    if begins_with_name(inside) && length <= MAX_NAME && is_closed {
+        Some((Form::Quoted, length + 2))
     } else {
         None
     }
@@ -127,6 +158,8 @@ fn form_at(bytes: &[u8]) -> Option<(Form, usize)>
         number_at(bytes)
     } else if first == b'\'' {
         words_at(&bytes[1..])
+    } else if first == b'"' {
+        quoted_at(&bytes[1..])
     } else {
         sign_at(bytes)
     }

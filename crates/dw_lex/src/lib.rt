@@ -1,7 +1,7 @@
-//! The tokens of a statement: names, numbers, texts in quotes and signs, each with its place.
+//! The tokens of a statement: names, quoted names, numbers, texts in quotes and signs, each with its place.
 //!
-//! The rules are this project's profile of the lexical structure in the Amazon Redshift guide and the SQL standard.
-//! Quoted names are not read yet.
+//! The rules are this project's profile of the lexical structure in the Amazon Redshift guide and the SQL standard. A
+//! quoted name has the characters of a name and is folded as one is; it may be a reserved word, and is never a keyword.
 #![tactic(auto)]
 
 mod fault;

@@ -2,9 +2,22 @@
 ghost use Rattle.std.specs.Prelude.{◌≡◌, ◌++◌, false, IfOk};
 ghost use Rattle.std.specs.Char.{is_ascii_digit};
 ghost use Rattle.std.specs.List.{list_all};
-ghost use Rattle.dw_lex.specs.Meaning.{said_by, said_after, number_of_digits, number_with_places};
+ghost use Rattle.dw_lex.specs.Meaning.{between_quotes, said_by, said_after, number_of_digits, number_with_places};
 
 use std::alloc::{AllocError, Global};
+
+/// What stands between the first double quote and the next one.
+pub fn between_quotes(text: &str) -> &str
+    ensures { result.now ≡ between_quotes text.now }
+{
+    let Some((_, inside)) = text.split_once('"') else {
+        return "";
+    };
+    match inside.split_once('"') {
+        Some((name, _)) => name,
+        None => inside,
+    }
+}
 
 // The bytes of a text after its opening quote.
 fn said_after(alloc: Global, bytes: &[u8]) -> Result<Vec<u8>, AllocError>

@@ -38,8 +38,8 @@ fn token(alloc: Global, text: &[u8], start: usize) -> Result<Token, LexFault>
 /// line or from `/*` to `*/`, and these nest; it begins wherever a token could, as in `a--b` and in `1/* */`.
 ///
 /// `Foreign` has the first place where neither begins: another character stands there, or a name of more than 127
-/// bytes, a number of more than 38 digits, a text that isn't closed or isn't UTF-8, or the `/*` of a comment that isn't
-/// closed. Each token's text is a copy of its own.
+/// bytes, a number of more than 38 digits, a quoted part that is no name of at most 127 bytes or isn't closed, a text
+/// that isn't closed or isn't UTF-8, or the `/*` of a comment that isn't closed. Each token's text is a copy of its own.
 pub fn tokens(alloc: Global, text: &[u8]) -> Result<List<Token>, LexFault>
     ensures read { Gives result (read_tokens text.now) }
     // The tokens are slices of the text, in order, and nothing but blanks and comments is left out.

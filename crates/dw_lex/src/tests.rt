@@ -48,6 +48,17 @@ fn tokens_are_the_longest_at_their_place(rt: HostRuntime) -> Result<(), Fail> {
         ("'it''s", "foreign 0"),
         ("a 'b", "foreign 2"),
         ("x\"", "foreign 1"),
+        ("\"a\" \"Select\"", "Quoted 0 3;Quoted 4 12;"),
+        (
+            "\"a\"\"b\".\"c$1\"d",
+            "Quoted 0 3;Quoted 3 6;Sign(Dot) 6 7;Quoted 7 12;Name 12 13;",
+        ),
+        ("a \"\"", "foreign 2"),
+        ("a \"a b\"", "foreign 2"),
+        ("\"a", "foreign 0"),
+        ("\"1a\"", "foreign 0"),
+        ("\"é\"", "foreign 0"),
+        ("\"a'\"'", "foreign 0"),
         ("é", "foreign 0"),
         ("a é 'b", "foreign 2"),
         ("$1", "foreign 0"),
@@ -125,6 +136,11 @@ fn long_names_and_numbers_are_foreign(rt: HostRuntime) -> Result<(), Fail> {
         let text = repeated(rt.alloc(), character, count)?;
         assert_eq!(rt; shown(rt.alloc(), text.as_bytes())?.as_str(), expected);
     }
+    for (count, expected) in [(127, "Quoted 0 129;"), (128, "foreign 0")] {
+        let name = repeated(rt.alloc(), 'a', count)?;
+        let text = format!(in rt.alloc(); "\"{name}\"")?;
+        assert_eq!(rt; shown(rt.alloc(), text.as_bytes())?.as_str(), expected);
+    }
     let mut text = repeated(rt.alloc(), '7', 37)?;
     text.push_str(".5")?;
     assert_eq!(rt;
@@ -141,13 +157,17 @@ fn tokens_say_what_they_stand_for(rt: HostRuntime) -> Result<(), Fail> {
     let alloc = rt.alloc();
     let found = tokens(
         alloc,
-        b"SeLect 'it''s' '''' '' 007 99999999999999999999999999999999999999 1.5 <> !=",
+        b"SeLect \"SeLect\" 'it''s' '''' '' 007 99999999999999999999999999999999999999 1.5 <> !=",
     )?;
     let mut said = String::new(alloc);
     for token in found.as_slice() {
         if token.is_word("select") && !token.is_word("selec") {
             let name = token.folded(alloc)?;
             said.push_str(name.as_str())?;
+        }
+        if let Some(name) = token.written_name(alloc)? {
+            let name = name.as_str();
+            write!(said, "+{name}")?;
         }
         if token.is_sign(Sign::Unequal) {
             said.push_str("unequal")?;
@@ -166,7 +186,7 @@ fn tokens_say_what_they_stand_for(rt: HostRuntime) -> Result<(), Fail> {
     }
     assert_eq!(rt;
         said.as_str(),
-        "select|it's|'||7~7~0|\
+        "select+select|+select|it's|'||7~7~0|\
          99999999999999999999999999999999999999~99999999999999999999999999999999999999~0|~15~1|unequal|unequal|"
     );
     Ok(())

@@ -1,7 +1,7 @@
 //! Tokens.
 ghost use Rattle.std.specs.Prelude.{◌≡◌, ◌↔◌, IsTrue, IfOk};
 
-use crate::meaning::{number_of_digits, number_with_places, said_by};
+use crate::meaning::{between_quotes, number_of_digits, number_with_places, said_by};
 use crate::signs::Sign;
 use dw_value::Text;
 use std::alloc::{AllocError, Global};
@@ -11,6 +11,8 @@ use std::alloc::{AllocError, Global};
 pub enum Form {
     /// An ASCII letter or `_`, then letters, digits, `_` or `$`: at most 127 bytes. A word of SQL is a name too.
     Name,
+    /// A name in double quotes, which may be a word of SQL too. The quotes belong to it, the 127 bytes are those between.
+    Quoted,
     /// Digits, or digits with one point and at least one digit after it: at most 38 digits.
     Number,
     /// A text in single quotes, in which two quotes stand for one.
@@ -34,10 +36,10 @@ pub struct Token {
 
 impl Token {
     ghost use Rattle.dw_lex.specs.declared.token.Form.TheVariants as forms;
-    ghost use Rattle.dw_lex.specs.Meaning.{IsWord, folded, said_by, whole_number, decimal_number};
+    ghost use Rattle.dw_lex.specs.Meaning.{IsWord, folded, written_name, said_by, whole_number, decimal_number};
 
-    /// Whether the token is this word, in whatever case its ASCII letters are. Only names are words; a text in quotes
-    /// is none.
+    /// Whether the token is this word, in whatever case its ASCII letters are. Only names are words; a quoted name and a
+    /// text in quotes are none.
     pub fn is_word(&self, word: &str) -> bool
         ensures { IsTrue result ↔ IsWord word.now self.now }
     {
@@ -60,6 +62,20 @@ impl Token {
     {
         let name = self.text.as_str().to_ascii_lowercase(alloc)?;
         Ok(Text::from_string(name))
+    }
+
+    /// The name that the token writes, with its ASCII letters in lower case: that of a name, and what stands between the
+    /// quotes of a quoted name. `None` comes for any other token.
+    pub fn written_name(&self, alloc: Global) -> Result<Option<Text>, AllocError>
+        ensures { IfOk result (λ name. name ≡ written_name self.now) }
+    {
+        let name = match self.form {
+            Form::Name => self.text.as_str(),
+            Form::Quoted => between_quotes(self.text.as_str()),
+            _ => return Ok(None),
+        };
+        let folded = name.to_ascii_lowercase(alloc)?;
+        Ok(Some(Text::from_string(folded)))
     }
 
     /// The number that a token of digits alone writes. `None` comes for any other token, a number with a point among

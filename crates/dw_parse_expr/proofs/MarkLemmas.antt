@@ -5,7 +5,7 @@ use Rattle.std.specs.Option.{option_and_then}
 use Rattle.std.specs.List.{list_all}
 use Rattle.std.specs.Cmp.Lexicographic.{pointwise, bytes_decides}
 use Rattle.std.proofs.lemmas.Bool.{eqb-true, eq-eqb}
-use Rattle.dw_lex.specs.Meaning.{folded, decimal_number}
+use Rattle.dw_lex.specs.Meaning.{folded, name_in, decimal_number}
 use Rattle.dw_lex.specs.declared.signs.Sign.TheVariants as sign
 use Rattle.dw_lex.specs.declared.token.Form.{Form}
 use Rattle.dw_lex.specs.declared.token.Form.TheVariants as form
@@ -84,6 +84,7 @@ word_no_name t m e = meant_no_name mark_words (t ∷ []) 0 m words_reserved e
 -- a mark, a name, a number and a text are different tokens
 name_by : (t : Token) (m : Mark) (f : Form) → t.form ≡ f → mark_by f t ≡ Some m → name_of t ≡ None
 name_by t m form.Name is e = word_no_name t m e
+name_by t m form.Quoted is e = cc
 name_by t m form.Number is e = cc
 name_by t m form.Words is e = rw is refl
 name_by t m (form.Sign s) is e = rw is refl
@@ -94,6 +95,7 @@ mark_name m (Some t) e = name_by t m t.form refl e
 
 digits_by : (t : Token) (m : Mark) (f : Form) → t.form ≡ f → mark_by f t ≡ Some m → decimal_number t ≡ None
 digits_by t m form.Name is e = rw is refl
+digits_by t m form.Quoted is e = cc
 digits_by t m form.Number is e = cc
 digits_by t m form.Words is e = rw is refl
 digits_by t m (form.Sign s) is e = rw is refl
@@ -104,6 +106,7 @@ mark_digits m (Some t) e = ap within_digits (digits_by t m t.form refl e)
 
 text_by : (t : Token) (m : Mark) (f : Form) → t.form ≡ f → mark_by f t ≡ Some m → is_mark Text (Some m) ≡ false → text_of t ≡ None
 text_by t m form.Name is e other = rw is refl
+text_by t m form.Quoted is e other = rw is refl
 text_by t m form.Number is e other = rw is refl
 text_by t m form.Words is e other = absurd (true_false refl (ap (is_mark Text) e ∙ other))
 text_by t m (form.Sign s) is e other = rw is refl
@@ -114,6 +117,7 @@ mark_text m (Some t) e other = text_by t m t.form refl e other
 
 said_form : (t : Token) (said : List ℕ) (f : Form) → text_in f t.text ≡ Some said → f ≡ form.Words
 said_form t said form.Name e = cc
+said_form t said form.Quoted e = cc
 said_form t said form.Number e = cc
 said_form t said form.Words e = refl
 said_form t said (form.Sign s) e = cc
@@ -124,6 +128,7 @@ said_mark said (Some t) e = ap (λ f. mark_by f t) (said_form t said t.form e)
 
 digits_name : (t : Token) (f : Form) → t.form ≡ f → (found : Option (ℕ × ℕ)) → decimal_number t ≡ found → (n : ℕ × ℕ) → within_digits found ≡ Some n → name_of t ≡ None
 digits_name t form.Name is found e n h = absurd (none_some (ap within_digits e ∙ h) (rw is refl))
+digits_name t form.Quoted is found e n h = absurd (none_some (ap within_digits e ∙ h) (rw is refl))
 digits_name t form.Number is found e n h = rw is refl
 digits_name t form.Words is found e n h = rw is refl
 digits_name t (form.Sign s) is found e n h = rw is refl
@@ -154,6 +159,13 @@ module _ (tokens : List Token) (i : ℕ) where
   pub digits_no_name : (n : ℕ × ℕ) → digits_at tokens i ≡ Some n → name_at tokens i ≡ None
   digits_no_name n e = number_name n (slice_get tokens i) e
 
+name_folded : (f : Form) (text : List ℕ) → is_name f ≡ true → name_in f text ≡ Some (folded text)
+name_folded form.Name text e = refl
+name_folded form.Quoted text e = cc
+name_folded form.Number text e = cc
+name_folded form.Words text e = cc
+name_folded (form.Sign s) text e = cc
+
 -- a word that is not reserved is a name
 found_name : (word : List ℕ) (found : Option Token) → is_reserved (folded word) ≡ false → says_in word found ≡ true
     → (name : List ℕ) × (option_and_then name_of found ≡ Some name)
@@ -161,7 +173,7 @@ found_name word None free e = cc
 found_name word (Some t) free e =
     let b = and_both (is_name t.form) (pointwise nat_eq (folded t.text) (folded word)) e in
     let same = (bytes_decides (folded t.text) (folded word)).0 b.1 in
-    (folded t.text, rw (b.0, ap is_reserved same ∙ free) refl)
+    (folded t.text, rw (b.0, ap is_reserved same ∙ free) (name_folded t.form t.text b.0))
 
 pub word_name : (word : List ℕ) (tokens : List Token) (i : ℕ) → is_reserved (folded word) ≡ false → word_at word tokens i ≡ true
     → (name : List ℕ) × (name_at tokens i ≡ Some name)
@@ -224,6 +236,7 @@ count_aggregate tokens i e = count_found (slice_get tokens i) e
 -- a sign of opening is a mark
 open_by : (t : Token) (f : Form) → is_sign sign.Open (sign_of f) ≡ true → mark_by f t ≡ Some Open
 open_by t form.Name e = cc
+open_by t form.Quoted e = cc
 open_by t form.Number e = cc
 open_by t form.Words e = cc
 open_by t (form.Sign sign.Open) e = refl

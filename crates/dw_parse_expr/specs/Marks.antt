@@ -46,8 +46,10 @@ sign_mark sign.AtLeast = Compared comparison.AtLeast
 sign_mark sign.Join = Join
 sign_mark sign.Cast = Cast
 
+-- by the form of a token; a quoted name is no word of the grammar
 abbrev pub mark_by : Form → Token → Option Mark
 mark_by form.Name token = meant mark_words token
+mark_by form.Quoted token = None
 mark_by form.Number token = None
 mark_by form.Words token = Some Text
 mark_by (form.Sign sign) token = Some (sign_mark sign)

@@ -83,7 +83,7 @@ fn mark_of(token: &Token) -> Option<Mark>
 {
     match token.form {
         Form::Name => word_mark(token),
-        Form::Number => None,
+        Form::Quoted | Form::Number => None,
         Form::Words => Some(Mark::Text),
         Form::Sign(sign) => Some(sign_mark(sign)),
     }

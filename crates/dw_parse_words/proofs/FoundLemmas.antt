@@ -93,6 +93,7 @@ one_word a b tokens i other e = word_other a b (slice_get tokens i) (apart a b o
 -- where a word stands, and after the last token, is no sign
 sign_form : (f : Form) (b : Bool) → (is_name f && b) ≡ true → sign_of f ≡ None
 sign_form form.Name b e = refl
+sign_form form.Quoted b e = refl
 sign_form form.Number b e = refl
 sign_form form.Words b e = refl
 sign_form (form.Sign s) b e = cc
@@ -121,6 +122,7 @@ no_name (entry ∷ entries) t e = rw e (no_name entries t e)
 
 sign_not_name : (p : Option Mark → Bool) (f : Form) → p None ≡ false → p (sign_of f) ≡ true → is_name f ≡ false
 sign_not_name p form.Name lacks e = cc
+sign_not_name p form.Quoted lacks e = refl
 sign_not_name p form.Number lacks e = refl
 sign_not_name p form.Words lacks e = refl
 sign_not_name p (form.Sign s) lacks e = refl
@@ -213,12 +215,14 @@ meant_no_name entries tokens i a reserved e = reserved_in entries (slice_get tok
 -- digits and texts are neither signs nor words, and no token is both
 digits_form : (f : Form) (text : List ℕ) (n : ℕ × ℕ) → within_digits (decimal_in f text) ≡ Some n → f ≡ form.Number
 digits_form form.Name text n e = cc
+digits_form form.Quoted text n e = cc
 digits_form form.Number text n e = refl
 digits_form form.Words text n e = cc
 digits_form (form.Sign s) text n e = cc
 
 text_form : (f : Form) (text said : List ℕ) → text_in f text ≡ Some said → f ≡ form.Words
 text_form form.Name text said e = cc
+text_form form.Quoted text said e = cc
 text_form form.Number text said e = cc
 text_form form.Words text said e = refl
 text_form (form.Sign s) text said e = cc

@@ -38,6 +38,7 @@ negative_of_digits n = literals.Number (neg_ℤ (pos n.0)) n.1
 abbrev pub text_in : Form → List ℕ → Option (List ℕ)
 text_in form.Words text = Some (said_by text)
 text_in form.Name text = None
+text_in form.Quoted text = None
 text_in form.Number text = None
 text_in (form.Sign sign) text = None
 

@@ -4,7 +4,7 @@ use Rattle.std.specs.Prelude.{ℕ, ◌^◌, Bool, true, false, ◌&&◌, nat_eq,
 use Rattle.std.specs.Option.{option_and_then}
 use Rattle.std.specs.List.{list_any}
 use Rattle.std.specs.Cmp.Lexicographic.{pointwise}
-use Rattle.dw_lex.specs.Meaning.{folded, whole_number}
+use Rattle.dw_lex.specs.Meaning.{folded, written_name, whole_number}
 use Rattle.dw_lex.specs.declared.signs.Sign.{Sign as Mark}
 use Rattle.dw_lex.specs.declared.signs.Sign.TheVariants as mark
 use Rattle.dw_lex.specs.declared.token.Form.{Form}
@@ -13,23 +13,26 @@ use Rattle.dw_lex.specs.declared.token.Token.{Token}
 use Rattle.dw_value.specs.declared.kinds.Comparison.{Comparison}
 use Rattle.dw_value.specs.declared.kinds.Comparison.TheVariants as test
 
+-- the form of a name without quotes, as a word is
 abbrev pub is_name : Form → Bool
 is_name form.Name = true
+is_name form.Quoted = false
 is_name form.Number = false
 is_name form.Words = false
 is_name (form.Sign sign) = false
 
 abbrev pub sign_of : Form → Option Mark
 sign_of form.Name = None
+sign_of form.Quoted = None
 sign_of form.Number = None
 sign_of form.Words = None
 sign_of (form.Sign sign) = Some sign
 
--- the token is this word, whatever the case of its letters
+-- the token is this word, whatever the case of its letters; a quoted name is no word
 abbrev pub says : List ℕ → Token → Bool
 says word token = is_name token.form && pointwise nat_eq (folded token.text) (folded word)
 
--- the words that are no names
+-- the words that are no names without quotes
 abbrev pub reserved_words : List (List ℕ)
 reserved_words =
     codes "all" ∷ codes "and" ∷ codes "as" ∷ codes "asc" ∷ codes "between" ∷ codes "by" ∷ codes "case" ∷ codes "create"
@@ -45,10 +48,9 @@ reserved_words =
 unfoldable pub is_reserved : List ℕ → Bool
 is_reserved name = list_any (λ word. pointwise nat_eq word name) reserved_words
 
--- a name in lower case; no reserved word is a name
+-- a name in lower case; a reserved word is one in quotes alone
 abbrev pub name_of : Token → Option (List ℕ)
-name_of token =
-    if is_name token.form then (if is_reserved (folded token.text) then None else Some (folded token.text)) else None
+name_of token = if is_name token.form && is_reserved (folded token.text) then None else written_name token
 
 -- a number of at most 38 digits
 abbrev pub below_limit : Option ℕ → Option ℕ

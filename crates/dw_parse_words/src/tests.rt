@@ -90,6 +90,21 @@ fn names_and_lists_are_read(rt: HostRuntime) -> Result<(), Fail> {
         ("public.t", "public;t 3;none;0;", "t 3;public 1;"),
         ("public", "public;public 1;none;0;", "public 1;public 1;"),
         ("select", "none;none;none;0;", "none;0;"),
+        (
+            "\"Select\"",
+            "select;select 1;none;0;",
+            "select 1;select 1;",
+        ),
+        (
+            "public.\"From\"",
+            "public;from 3;none;0;",
+            "from 3;public 1;",
+        ),
+        (
+            "\"public\".t",
+            "public;public 1;none;0;",
+            "public 1;public 1;",
+        ),
         ("(a, B)", "none;none;a b 5;a b 5;", "none;0;"),
         ("(a,)", "none;none;none;none;", "none;0;"),
         ("()", "none;none;none;none;", "none;0;"),
@@ -111,6 +126,7 @@ fn literals_and_kinds_are_read(rt: HostRuntime) -> Result<(), Fail> {
         ("'it''s', date '', true", None, "it's;", Some((3, 6))),
         ("1,", Some((1, 0)), "none;", None),
         ("a", None, "none;", None),
+        ("\"null\"", None, "none;", None),
     ] {
         let tokens = tokens_of(rt.alloc(), text)?;
         let mut line = String::new(rt.alloc());
@@ -136,6 +152,8 @@ fn literals_and_kinds_are_read(rt: HostRuntime) -> Result<(), Fail> {
                 6,
             )),
         ),
+        ("character \"varying\"", Some((Kind::Char { length: 1 }, 1))),
+        ("\"int\"", None),
         ("decimal(5, 6)", None),
         ("varchar(0)", None),
     ] {

@@ -103,7 +103,7 @@ fn sign_of(form: Form) -> Option<Sign>
     }
 }
 
-/// Whether a token is this word.
+/// Whether a token is this word. A quoted name is no word.
 pub fn says(token: &Token, word: &str) -> bool
     ensures { result ≡ says word.now token.now }
 {
@@ -122,7 +122,7 @@ fn name_of(alloc: Global, token: &Token) -> Result<Option<Text>, AllocError>
                 Ok(Some(name))
             }
         }
-        _ => Ok(None),
+        _ => Ok(token.written_name(alloc)?),
     }
 }
 
@@ -182,7 +182,7 @@ pub fn is_sign_at(tokens: &List<Token>, at: usize, sign: Sign) -> bool
     sign_at(tokens, at) == Some(sign)
 }
 
-/// The name at a place, in lower case.
+/// The name at a place, in lower case: a name that is no reserved word, or a quoted name, which may be one.
 pub fn name_at(alloc: Global, tokens: &List<Token>, at: usize) -> Result<Option<Text>, AllocError>
     ensures value { IfOk result (λ name. name ≡ name_at tokens.now at) }
     ensures within { IfOk result (λ name. OnSome name (at < length tokens.now)) }
